@@ -234,7 +234,7 @@ end
         starts "$relative" '' $taken --origin "$origin"
     done
 done
-starts "${relative/ 11 / 12 }" "serving ZONE; created the store '$store' again from it; the old store is kept as '$store/old-1'" --take zone --origin Exmaple.Test.
+starts "${relative/ 11 / 12 }" "serving ZONE; changed the store '$store' to it: serial 11 to 12, 0 records deleted, 0 added" --take zone --origin Exmaple.Test.
 stays 1 "$relative" "error: the zone's text has the apex example.test., and the store '$store' the apex exmaple.test.: give --origin exmaple.test., if that zone is meant, or else --store a new directory" --origin example.test.
 
 # a store of serial 7 with the update, in which the text of serial 6 isn't the one that it was begun from
@@ -345,7 +345,7 @@ begins_with() {
 while read -r last serial newer; do
     begins_with "$last"
     if [ "$newer" = newer ]; then
-        stops 1 "${six/ 6 / $serial }" "error: the zone's text is another one than the store '$store' was begun from, and has the serial $serial, greater than the store's $last: --take store serves the store, --take zone the text, and keeps the store before beside it"
+        stops 1 "${six/ 6 / $serial }" "error: the zone's text is another one than the store '$store' was begun from, and has the serial $serial, greater than the store's $last: --take store serves the store, --take zone changes it to the text"
     else
         starts "${six/ 6 / $serial }" "serving the store '$store'; ignoring ZONE: it has changed, but its serial $serial is not newer"
     fi
@@ -364,23 +364,25 @@ head=$(head_of 3 7369787465656e206f63746574732e2e "$seven" 7 "$seven")
 whole=$head$(frame_of "$head" 0 "$add_a")
 lays_store 3 "$seven" "$whole"
 starts "${six/ 6 / 8 }" "serving the store '$store'; ignoring ZONE: it has changed, but its serial 8 is not newer"
-stops 1 "$nine" "error: the zone's text is another one than the store '$store' was begun from, and has the serial 9, greater than the store's 8: --take store serves the store, --take zone the text, and keeps the store before beside it"
+stops 1 "$nine" "error: the zone's text is another one than the store '$store' was begun from, and has the serial 9, greater than the store's 8: --take store serves the store, --take zone changes it to the text"
 has_journal "$whole"
 
-# a store that is taken is served, whatever the serials are and whatever the text says; a text that is taken needs a serial greater than the store's (RFC 1982, 3.2), and one
-# that is no zone is told by its fault
+# a store that is taken is served, whatever the serials are and whatever the text says; a text that is taken changes the store, to the serial after the store's where the text's
+# isn't greater (RFC 1982, 3.2), and to nothing else where that serial is all that differs
 while read -r serial newer; do
     begins_with 10
     starts "${six/ 6 / $serial }" "serving the store '$store'; ignoring ZONE" --take store
     prints_zone "${six/ 6 / 10 }"
     if [ "$newer" = newer ]; then
-        starts "${six/ 6 / $serial }" "serving ZONE; created the store '$store' again from it; the old store is kept as '$store/old-1'" --take zone
+        starts "${six/ 6 / $serial }" "serving ZONE; changed the store '$store' to it: serial 10 to $serial, 0 records deleted, 0 added" --take zone
         prints_zone "${six/ 6 / $serial }"
     else
-        stops 1 "${six/ 6 / $serial }" "error: --take zone needs a serial greater than the store's: the zone's text has $serial, the store '$store' has 10: raise the text's serial, or serve the store by --take store" --take zone
-        has_files journal lock zone-3
+        starts "${six/ 6 / $serial }" "serving the store '$store', which has the zone of ZONE, with serial 10" --take zone
         prints_zone "${six/ 6 / 10 }"
     fi
+    has_files journal lock zone-3
+    # from then on it is the text that the store was begun from
+    starts "${six/ 6 / $serial }" ''
 done <<'end'
 7
 10
@@ -390,43 +392,54 @@ done <<'end'
 4294967295
 end
 begins_with 10
+starts "${six/ 6 / 7 }"$'a.example. 300 IN A 192.0.2.1\n' "serial 7 of ZONE isn't greater than 10: 11 is served
+serving ZONE; changed the store '$store' to it: serial 10 to 11, 0 records deleted, 1 added" --take zone
+prints_zone "${six/ 6 / 11 }"$'a.example. 300 IN A 192.0.2.1\n'
+begins_with 10
 line=$'example. 3600 IN A 192.0.2.256\n'
 stops 1 "$line" 'line 1: M6 BadData'
 stops 1 "$line" 'line 1: M6 BadData' --take zone
 starts "$line" "serving the store '$store'; ignoring ZONE" --take store
 has_files journal lock zone-3
 # names of the text are relative to the origin that is given
-starts $'@ 60 SOA ns host 11 1 1 1 1\n@ 60 NS ns\n' "serving ZONE; created the store '$store' again from it; the old store is kept as '$store/old-1'" --take zone --origin example.
+starts $'@ 60 SOA ns host 11 1 1 1 1\n@ 60 NS ns\n' "serving ZONE; changed the store '$store' to it: serial 10 to 11, 0 records deleted, 1 added" --take zone --origin example.
 prints_zone $'example. 60 IN SOA ns.example. host.example. 11 1 1 1 1\nexample. 60 IN NS ns.example.\n'
 
-# the store before one that is taken is kept in a folder of its own, where it is a store; what a crash has left of a pair is written over; the next start takes nothing, and
-# another text is another store
+# a store that is changed keeps its zone text and its updates, and the change is one more; what a crash has left of a journal is written over; the next start takes nothing, and
+# another text is another change
 lays_store 3 "$seven" "$whole"
 printf 'half of a text' >"$store/zone-4"
 repeat 500 x >"$store/journal.new"
-starts "$nine" "serving ZONE; created the store '$store' again from it; the old store is kept as '$store/old-1'" --take zone
-has_files journal lock old-1 zone-3 zone-4
+printf %s "$with_a" >"$room/with_a"
+printf %s "$nine" >"$room/nine"
+printf %s "$ten" >"$room/ten"
+input=
+tries change --hex "$room/with_a" "$room/nine"
+to_nine=${said%$'\n'}
+tries change --hex "$room/nine" "$room/ten"
+to_ten=${said%$'\n'}
+starts "$nine" "serving ZONE; changed the store '$store' to it: serial 8 to 9, 1 records deleted, 0 added" --take zone
+has_files journal lock zone-3
 begun=$(journal_now)
-has_journal "$(head_of 4 "${begun:48:32}" "$nine" 9 "$nine")"
-holds zone-4 "$nine"
+head=$(head_of 3 "${begun:48:32}" "$seven" 7 "$nine")
+has_journal "$head$(frame_of "$head" 0 "$add_a")$(frame_of "$head" 1 "$to_nine")"
+holds zone-3 "$seven"
 prints_zone "$nine"
 for taken in '' '--take store' '--take zone'; do
     # shellcheck disable=SC2086
     starts "$nine" '' $taken
 done
 has_journal "$begun"
-starts "$ten" "serving ZONE; created the store '$store' again from it; the old store is kept as '$store/old-2'" --take zone
-has_files journal lock old-1 old-2 zone-3 zone-4 zone-5
-holds old-1/zone-3 "$seven"
-has_journal "$whole" "$store/old-1"
-prints_zone "$with_a" "$store/old-1"
-holds old-2/zone-4 "$nine"
-has_journal "$begun" "$store/old-2"
+starts "$ten" "serving ZONE; changed the store '$store' to it: serial 9 to 10, 0 records deleted, 0 added" --take zone
+has_files journal lock zone-3
+begun=$(journal_now)
+head=$(head_of 3 "${begun:48:32}" "$seven" 7 "$ten")
+has_journal "$head$(frame_of "$head" 0 "$add_a")$(frame_of "$head" 1 "$to_nine")$(frame_of "$head" 2 "$to_ten")"
 prints_zone "$ten"
 
-# a text that can't be written leaves the store
+# a journal that can't be written leaves the store
 lays_store 3 "$seven" "$whole"
-mkdir "$store/zone-4"
+mkdir "$store/journal.new"
 stops 3 "$nine" "error: the store '$store' can't be read or written: Is a directory (os error 21)" --take zone
 prints_zone "$with_a"
 

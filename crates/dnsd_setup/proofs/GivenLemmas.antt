@@ -13,7 +13,7 @@ begun text origin random store with = inr (with.zone, with.number, random, text,
 
 pub given : (text : List ℕ) (origin : Name) (taken : Option Take) (random : List ℕ) (store : OpenStore) (served : Served) → IsServedBy text origin taken random store served → IsGiven store
 given text origin taken random store Created is = begun text origin random store is
-given text origin taken random store (Zone kept) is = begun text origin random store is.4
+given text origin taken random store (Zone change) is = inl (is.0, is.4.octets, is.4.later, is.4.goes_on)
 given text origin taken random store Same is = inl (is.0, is.1, is.2.start, is.3)
 given text origin taken random store Store is = inl (is.0, is.1, is.2.start, is.3)
 given text origin taken random store (StoreThoughOther serial) is = inl (is.0, is.1, is.2.start, is.3)

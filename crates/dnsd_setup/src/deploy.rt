@@ -14,10 +14,8 @@ use std::net::{Net, SocketAddr, TcpStream};
 use std::rt::Env;
 use std::time::{Clock, Duration};
 use tsig::Key;
-use zone_change::{ChangeFault, change_to, message_of};
-use zone_deploy::{
-    ChangeSummary, DeployFault, Request, ServerFault, send_update, summary_of, zone_of_server,
-};
+use zone_change::{ChangeFault, ChangeSummary, change_to, message_of, summary_of};
+use zone_deploy::{DeployFault, Request, ServerFault, send_update, zone_of_server};
 use zone_tree::{Zone, ZoneRead};
 
 /// How often the update is made, where another one comes between (own).

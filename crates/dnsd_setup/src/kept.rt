@@ -12,7 +12,8 @@ use std::fs::{File, Files};
 use std::io;
 use std::random::RandomSource;
 use std::rt::Env;
-use store_server::{Given, Refusal, Served, Started, start_store};
+use store_server::{Given, Refusal, Served, Started, TakenZone, start_store};
+use zone_change::ChangeSummary;
 
 /// The number of secret octets at the start of a new journal.
 const SALT: usize = 16;
@@ -97,10 +98,30 @@ fn tell_served<R: Env + AllocGlobal + Eprint>(
                 "{warning}serving the store '{dir}'; ignoring ZONE: it has changed, but its serial {serial} is not newer"
             )
         }
-        Served::Zone(kept) => eprintln!(rt;
-            "{warning}serving ZONE; created the store '{dir}' again from it; the old store is kept as '{kept}'"
-        ),
+        Served::Zone(TakenZone::Unchanged(serial)) => {
+            let serial = serial.0;
+            eprintln!(rt;
+                "{notice}serving the store '{dir}', which has the zone of ZONE, with serial {serial}"
+            )
+        }
+        Served::Zone(TakenZone::Changed(summary)) => {
+            tell_serial(rt, notice, summary)?;
+            let (from, to) = (summary.from.0, summary.to.0);
+            let (deleted, added) = (summary.deleted, summary.added);
+            eprintln!(rt;
+                "{warning}serving ZONE; changed the store '{dir}' to it: serial {from} to {to}, {deleted} records deleted, {added} added"
+            )
+        }
     }
+}
+
+/// Reports on standard error that the serial of the zone's text isn't the one that is served, where it isn't.
+fn tell_serial<R: Eprint>(rt: &R, notice: &str, summary: &ChangeSummary) -> io::Result<()> {
+    let (from, to, given) = (summary.from.0, summary.to.0, summary.given.0);
+    if given == to {
+        return Ok(());
+    }
+    eprintln!(rt; "{notice}serial {given} of ZONE isn't greater than {from}: {to} is served")
 }
 
 /// Reports on standard error why nothing is served, and returns the program's status.
@@ -128,15 +149,15 @@ fn tell_refusal<R: Env + AllocGlobal + Eprint>(
         Refusal::Newer { has, given } => {
             let (has, given) = (has.0, given.0);
             eprintln!(rt;
-                "{mark}error: the zone's text is another one than the store '{dir}' was begun from, and has the serial {given}, greater than the store's {has}: --take store serves the store, --take zone the text, and keeps the store before beside it"
+                "{mark}error: the zone's text is another one than the store '{dir}' was begun from, and has the serial {given}, greater than the store's {has}: --take store serves the store, --take zone changes it to the text"
             )
         }
-        Refusal::NotNewer { has, given } => {
-            let (has, given) = (has.0, given.0);
-            eprintln!(rt;
-                "{mark}error: --take zone needs a serial greater than the store's: the zone's text has {given}, the store '{dir}' has {has}: raise the text's serial, or serve the store by --take store"
-            )
-        }
+        Refusal::NoChange(fault) => eprintln!(rt;
+            "{mark}error: --take zone: the store '{dir}' can't be changed to the zone's text: {fault}"
+        ),
+        Refusal::TooLarge => eprintln!(rt;
+            "{mark}error: --take zone: the change from the store '{dir}' to the zone's text has more records than one update may have: move the store out of the way to begin from the text"
+        ),
         Refusal::OtherApex { has, given } => eprintln!(rt;
             "{mark}error: the zone's text has the apex {given}, and the store '{dir}' the apex {has}: give --origin {has}, if that zone is meant, or else --store a new directory"
         ),

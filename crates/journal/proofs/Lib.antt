@@ -9,3 +9,4 @@ pub mod RecoveredLemmas
 pub mod StartLemmas
 pub mod SummedLemmas
 pub mod TailLemmas
+pub mod RequestLemmas

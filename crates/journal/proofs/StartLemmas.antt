@@ -1,5 +1,5 @@
 -- What a start takes, a body at a time, and the whole.
-use Rattle.std.proofs.Common.{◌≡◌, ℕ, ◌+◌, ◌-◌, ◌<◌, ◌≤◌, Bool, List, [], ◌∷◌, ◌++◌, length, take, get_or, map, if◌then◌else◌, refl, sym, ap, ◌∙◌, subst, append-nil, length-append, arith, Bor}
+use Rattle.std.proofs.Common.{◌≡◌, ℕ, ◌+◌, ◌-◌, ◌<◌, ◌≤◌, Bool, List, [], ◌∷◌, ◌++◌, length, take, get_or, map, if◌then◌else◌, refl, sym, ap, ◌∙◌, subst, append-nil, length-append, arith, Bor, Vec, Global}
 use Rattle.std.specs.Prelude.{All, Option, Some, None, MatchOption}
 use Rattle.std.proofs.lemmas.Option.{slice_get-get_or}
 use Rattle.std.proofs.lemmas.List.{take_more, take_all, map_push, map-append, length-map, get_or-map}
@@ -12,36 +12,36 @@ use Rattle.journal.specs.declared.tails.Tail.{Tail}
 use Rattle.journal.specs.declared.tails.Tail.TheVariants.{Blank, Torn, Later}
 use Rattle.journal.specs.Frame.{frames_of, IsRead}
 use Rattle.journal.specs.Tail.{IsTail}
-use Rattle.journal.specs.Batch.{batch_of, IsShort, IsBatch}
+use Rattle.journal.specs.Batch.{Messages, batch_of, IsRequest, IsBatch}
 use Rattle.journal.specs.Head.{head_of, salt_of, IsHead, IsText}
 use Rattle.journal.specs.Recovered.{updates_in, IsOpened, AreBatches, IsRecovered, IsNoBatch, IsRefusedBatch, IsDamaged, IsRefused}
 
 -- the first of bodies are batches, and these are their updates
-pub record TakenSoFar (bodies : List (List ℕ)) (number : ℕ) (updates : List (List ℕ)) : Type 0 where
-  pub batches : List (List (List ℕ))
+pub record TakenSoFar (bodies : List (List ℕ)) (number : ℕ) (updates : List Messages) : Type 0 where
+  pub batches : List (List Messages)
   pub are : AreBatches (take number bodies) batches
   pub all : updates ≡ updates_in batches
 
 pub none_taken : (bodies : List (List ℕ)) → TakenSoFar bodies 0 []
-none_taken bodies = record { batches = []; are = record { short = All-nil (All IsShort); spelt = refl }; all = refl }
+none_taken bodies = record { batches = []; are = record { short = All-nil (All IsRequest); spelt = refl }; all = refl }
 
-pub more_taken : (bodies : List (List ℕ)) (number : ℕ) (updates all batch : List (List ℕ)) (d : List ℕ)
+pub more_taken : (bodies : List (List ℕ)) (number : ℕ) (updates all batch : List Messages) (d : List ℕ)
     → TakenSoFar bodies number updates → number < length bodies → IsBatch (get_or bodies number d) batch → all ≡ updates ++ batch → TakenSoFar bodies (number + 1) all
 more_taken bodies number updates all batch d so_far within is_batch is_all = record {
   batches = so_far.batches ++ batch ∷ [];
   are = record {
-    short = All-push (All IsShort) so_far.batches batch so_far.are.short is_batch.short;
+    short = All-push (All IsRequest) so_far.batches batch so_far.are.short is_batch.short;
     spelt = take_more bodies number d within
         ∙ (ap (λ (bs : List (List ℕ)). bs ++ get_or bodies number d ∷ []) so_far.are.spelt
         ∙ (ap (λ (b : List ℕ). map batch_of so_far.batches ++ b ∷ []) is_batch.spelt ∙ sym (map_push batch_of so_far.batches batch)));
   };
-  all = is_all ∙ (ap (λ (us : List (List ℕ)). us ++ batch) so_far.all
-      ∙ (ap (λ (us : List (List ℕ)). updates_in so_far.batches ++ us) (sym (append-nil batch))
-      ∙ sym (flat_map-append (λ (x : List (List ℕ)). x) so_far.batches (batch ∷ []))));
+  all = is_all ∙ (ap (λ (us : List Messages). us ++ batch) so_far.all
+      ∙ (ap (λ (us : List Messages). updates_in so_far.batches ++ us) (sym (append-nil batch))
+      ∙ sym (flat_map-append (λ (x : List Messages). x) so_far.batches (batch ∷ []))));
 }
 
-pub all_taken : (bodies : List (List ℕ)) (number : ℕ) (updates : List (List ℕ)) → TakenSoFar bodies number updates → length bodies ≤ number
-    → (batches : List (List (List ℕ))) × AreBatches bodies batches × (updates ≡ updates_in batches)
+pub all_taken : (bodies : List (List ℕ)) (number : ℕ) (updates : List Messages) → TakenSoFar bodies number updates → length bodies ≤ number
+    → (batches : List (List Messages)) × AreBatches bodies batches × (updates ≡ updates_in batches)
 all_taken bodies number updates so_far end =
     (so_far.batches, subst (λ (bs : List (List ℕ)). AreBatches bs so_far.batches) (take_all number bodies end) so_far.are, so_far.all)
 
@@ -59,7 +59,7 @@ tail_from : (head : Head) (salt : List ℕ) (bodies : List (List ℕ)) (rest : L
 tail_from head salt bodies rest number tail is_salt count is =
     subst (λ (n : ℕ). IsTail (salt_of head) n rest tail) count (subst (λ (s : List ℕ). IsTail s number rest tail) is_salt is)
 
-pub recovered_from : (text octets : List ℕ) (head : Head) (salt behind : List ℕ) (bodies : List (List ℕ)) (rest : List ℕ) (batches : List (List (List ℕ))) (updates : List (List ℕ))
+pub recovered_from : (text octets : List ℕ) (head : Head) (salt behind : List ℕ) (bodies : List (List ℕ)) (rest : List ℕ) (batches : List (List Messages)) (updates : List Messages)
     (number end : ℕ) (torn : Bool)
     → IsHead head → salt ≡ salt_of head → octets ≡ head_of head ++ behind → IsRead salt 0 behind bodies rest → IsText head.text text
     → AreBatches bodies batches → updates ≡ updates_in batches → number ≡ length bodies → end ≡ length octets - length rest
@@ -124,16 +124,23 @@ lent_at bodies number d within = get_or-map (λ (b : Bor (List ℕ)). b.now) bod
 lent_long : (bodies : List (Bor (List ℕ))) → length (now_of bodies) ≡ length bodies
 lent_long bodies = length-map bodies (λ (b : Bor (List ℕ)). b.now)
 
-pub one_batch_more : (bodies : List (Bor (List ℕ))) (number : ℕ) (d : Bor (List ℕ)) (updates all batch : List (Bor (List ℕ)))
-    → TakenSoFar (now_of bodies) number (now_of updates) → number < length bodies → IsBatch (get_or bodies number d).now (now_of batch) → all ≡ updates ++ batch
-    → TakenSoFar (now_of bodies) (number + 1) (now_of all)
-one_batch_more bodies number d updates all batch so_far within is_batch is_all =
-    more_taken (now_of bodies) number (now_of updates) (now_of all) (now_of batch) d.now so_far (omega (arith, within, lent_long bodies))
-    (subst (λ (o : List ℕ). IsBatch o (now_of batch)) (sym (lent_at bodies number d within)) is_batch)
-    (ap now_of is_all ∙ map-append (λ (b : Bor (List ℕ)). b.now) updates batch)
+-- the same of requests, each of lent messages
+abbrev pub messages_now : Vec (Bor (List ℕ)) Global → Messages
+messages_now request = map (λ (m : Bor (List ℕ)). m.now) request.items
 
-pub no_batch_at : (bodies : List (Bor (List ℕ))) (number : ℕ) (d : Bor (List ℕ)) (updates : List (List ℕ)) → TakenSoFar (now_of bodies) number updates → number < length bodies
-    → ((updates : List (List ℕ)) → IsBatch (get_or bodies number d).now updates → ⊥) → IsNoBatch (now_of bodies) number
+abbrev pub requests_now : List (Vec (Bor (List ℕ)) Global) → List Messages
+requests_now requests = map messages_now requests
+
+pub one_batch_more : (bodies : List (Bor (List ℕ))) (number : ℕ) (d : Bor (List ℕ)) (updates all batch : List (Vec (Bor (List ℕ)) Global))
+    → TakenSoFar (now_of bodies) number (requests_now updates) → number < length bodies → IsBatch (get_or bodies number d).now (requests_now batch) → all ≡ updates ++ batch
+    → TakenSoFar (now_of bodies) (number + 1) (requests_now all)
+one_batch_more bodies number d updates all batch so_far within is_batch is_all =
+    more_taken (now_of bodies) number (requests_now updates) (requests_now all) (requests_now batch) d.now so_far (omega (arith, within, lent_long bodies))
+    (subst (λ (o : List ℕ). IsBatch o (requests_now batch)) (sym (lent_at bodies number d within)) is_batch)
+    (ap requests_now is_all ∙ map-append messages_now updates batch)
+
+pub no_batch_at : (bodies : List (Bor (List ℕ))) (number : ℕ) (d : Bor (List ℕ)) (updates : List Messages) → TakenSoFar (now_of bodies) number updates → number < length bodies
+    → ((updates : List Messages) → IsBatch (get_or bodies number d).now updates → ⊥) → IsNoBatch (now_of bodies) number
 no_batch_at bodies number d updates so_far within none = record {
   batches = so_far.batches;
   before = so_far.are;

@@ -24,7 +24,7 @@ abbrev pub frames_of : List ℕ → ℕ → List (List ℕ) → List ℕ
 frames_of salt number [] = []
 frames_of salt number (body ∷ bodies) = framed salt number body ++ frames_of salt (number + 1) bodies
 
--- a body has fewer octets than this: a batch of 64 updates has at most 4,194,368 of them
+-- a body has fewer octets than this: 64 updates of one message each have at most 4,194,368 of them in a batch
 abbrev pub body_limit : ℕ
 body_limit = 2 ^ 24
 

@@ -7,15 +7,15 @@ use Rattle.journal.specs.declared.start.Refused.TheVariants.{BadHead, OtherText,
 use Rattle.journal.specs.declared.tails.Tail.TheVariants.{Blank, Torn, Later}
 use Rattle.journal.specs.Frame.{frames_of, IsRead}
 use Rattle.journal.specs.Tail.{IsTail}
-use Rattle.journal.specs.Batch.{batch_of, IsShort, IsBatch}
+use Rattle.journal.specs.Batch.{Messages, batch_of, IsRequest, IsBatch}
 use Rattle.journal.specs.Head.{head_of, salt_of, IsHead, IsText, IsHeadFault}
 
 -- a journal: its head, and the frames of these batches, the first of them of number 0
-abbrev pub journal_of : Head → List (List (List ℕ)) → List ℕ
+abbrev pub journal_of : Head → List (List Messages) → List ℕ
 journal_of head batches = head_of head ++ frames_of (salt_of head) 0 (map batch_of batches)
 
 -- all updates of batches, in order
-abbrev pub updates_in : List (List (List ℕ)) → List (List ℕ)
+abbrev pub updates_in : List (List Messages) → List Messages
 updates_in batches = flat_map (λ updates. updates) batches
 
 -- octets begin with this head, and these octets follow it
@@ -30,14 +30,14 @@ pub record IsOpened (octets : List ℕ) (head : Head) (bodies : List (List ℕ))
   pub read : IsRead (salt_of head) 0 behind bodies rest
 
 -- bodies are these batches
-pub record AreBatches (bodies : List (List ℕ)) (batches : List (List (List ℕ))) : Type 0 where
-  pub short : All (All IsShort) batches
+pub record AreBatches (bodies : List (List ℕ)) (batches : List (List Messages)) : Type 0 where
+  pub short : All (All IsRequest) batches
   pub spelt : bodies ≡ map batch_of batches
 
 -- what a start gets: the head; the updates, in order; the number of batches; the position after the last of them; and whether what follows is torn
-pub record IsRecovered (text octets : List ℕ) (head : Head) (updates : List (List ℕ)) (number end : ℕ) (torn : Bool) : Type 0 where
+pub record IsRecovered (text octets : List ℕ) (head : Head) (updates : List Messages) (number end : ℕ) (torn : Bool) : Type 0 where
   pub bodies : List (List ℕ)
-  pub batches : List (List (List ℕ))
+  pub batches : List (List Messages)
   pub rest : List ℕ
   pub opened : IsOpened octets head bodies rest
   pub same_text : IsText head.text text
@@ -49,11 +49,11 @@ pub record IsRecovered (text octets : List ℕ) (head : Head) (updates : List (L
 
 -- the bodies before this number are batches, and the body of this number isn't one
 pub record IsNoBatch (bodies : List (List ℕ)) (number : ℕ) : Type 0 where
-  pub batches : List (List (List ℕ))
+  pub batches : List (List Messages)
   pub before : AreBatches (take number bodies) batches
   pub body : List ℕ
   pub is_present : slice_get bodies number ≡ Some body
-  pub none : (updates : List (List ℕ)) → IsBatch body updates → ⊥
+  pub none : (updates : List Messages) → IsBatch body updates → ⊥
 
 -- why bodies are refused as batches
 abbrev pub IsRefusedBatch : List (List ℕ) → Refused → Type 0

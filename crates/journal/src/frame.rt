@@ -15,8 +15,8 @@ const MARK: usize = 8;
 /// The number of octets of a frame between its mark and its body: the length, in four, and the number, in eight.
 const LEAD: usize = 12;
 
-/// A body has fewer octets than this: a batch of 64 updates has at most 4,194,368 of them.
-const BODY_LIMIT: u32 = 1 << 24;
+/// A body has fewer octets than this: 64 updates of one message each have at most 4,194,368 of them in a batch.
+pub const BODY_LIMIT: usize = 1 << 24;
 
 /// The length of a checksum in octets, an SHA-256 (FIPS 180-4, 1).
 pub const SUM: usize = 32;
@@ -51,7 +51,7 @@ pub(crate) fn first_size(octets: &[u8]) -> Option<(u32, &[u8])>
         (λ r. (octets.now ≡ to_be_bytes w32 r.0 ++ r.1.now) × (length octets.now ≡ 4 + length r.1.now) × (r.0 < body_limit)) }
 {
     let (size, rest) = first_u32(octets)?;
-    if size >= BODY_LIMIT {
+    if size as usize >= BODY_LIMIT {
         return None;
     }
     Some((size, rest))

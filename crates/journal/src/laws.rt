@@ -4,7 +4,7 @@ ghost use Rattle.journal.specs.declared.heads.Head.{Head};
 ghost use Rattle.journal.specs.declared.heads.HeadFault.{HeadFault};
 ghost use Rattle.journal.specs.declared.start.Refused.{Refused};
 ghost use Rattle.journal.specs.declared.start.Refused.TheVariants.{NoMemory};
-ghost use Rattle.journal.specs.Batch.{batch_of, IsShort};
+ghost use Rattle.journal.specs.Batch.{Messages, batch_of, IsRequest};
 ghost use Rattle.journal.specs.declared.tails.Tail.TheVariants.{Torn};
 ghost use Rattle.journal.specs.Frame.{body_limit, framed, frames_of, Fit, IsFrame, IsRead};
 ghost use Rattle.journal.specs.Head.{head_of, IsHead, IsHeadFault, IsText};
@@ -58,19 +58,19 @@ pub fn one_head()
 
 /// A start reads all that was written, and refuses it only for lack of memory.
 pub fn what_is_written_is_recovered()
-    ensures taken { (text : List ℕ) (head other : Head) (batches : List (List (List ℕ))) (updates : List (List ℕ)) (number end : ℕ) (torn : Bool)
-        → IsHead head → Fit 0 (map batch_of batches) → All (All IsShort) batches
+    ensures taken { (text : List ℕ) (head other : Head) (batches : List (List Messages)) (updates : List Messages) (number end : ℕ) (torn : Bool)
+        → IsHead head → Fit 0 (map batch_of batches) → All (All IsRequest) batches
         → IsRecovered text (journal_of head batches) other updates number end torn
         → (other ≡ head) × (updates ≡ updates_in batches) × (torn ≡ false) }
-    ensures accepted { (text : List ℕ) (head : Head) (batches : List (List (List ℕ))) (why : Refused)
-        → IsHead head → IsText head.text text → Fit 0 (map batch_of batches) → All (All IsShort) batches
+    ensures accepted { (text : List ℕ) (head : Head) (batches : List (List Messages)) (why : Refused)
+        → IsHead head → IsText head.text text → Fit 0 (map batch_of batches) → All (All IsRequest) batches
         → IsRefused text (journal_of head batches) why → why ≡ NoMemory }
 {}
 
 /// A start reads first what was synced to the disk, whatever octets a crash leaves after it. It assumes nothing of the checksum.
 pub fn what_was_synced_is_recovered_first()
-    ensures { (text left : List ℕ) (head other : Head) (batches : List (List (List ℕ))) (updates : List (List ℕ)) (number end : ℕ) (torn : Bool)
-        → IsHead head → Fit 0 (map batch_of batches) → All (All IsShort) batches
+    ensures { (text left : List ℕ) (head other : Head) (batches : List (List Messages)) (updates : List Messages) (number end : ℕ) (torn : Bool)
+        → IsHead head → Fit 0 (map batch_of batches) → All (All IsRequest) batches
         → IsRecovered text (journal_of head batches ++ left) other updates number end torn
-        → (more : List (List ℕ)) × (other ≡ head) × (updates ≡ updates_in batches ++ more) }
+        → (more : List Messages) × (other ≡ head) × (updates ≡ updates_in batches ++ more) }
 {}

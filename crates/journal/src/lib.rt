@@ -1,8 +1,8 @@
-//! A journal of updates, as octets and on a disk (own). This crate opens no file, and doesn't look into an update.
+//! A journal of updates, as octets and on a disk (own). This crate opens no file, and doesn't look into a message.
 //!
 //! A journal is a head and frames, each a batch of updates that were synced to the disk together. A head says which zone text the journal belongs to ([`Head`], [`write_head`],
 //! [`read_head`]). A frame has a mark, the length of its body, its number, its body, and an SHA-256 that is salted with the head's ([`write_frame`], [`read_frame`], [`read_all`]); its body is
-//! a batch ([`put_update`], [`read_batch`]). [`tail_of`] distinguishes what a crash leaves from damage: a later frame is looked for only where its mark occurs, so that no octet is digested
+//! a batch ([`put_request`], [`read_batch`]) of requests, each of one message or more ([`RequestMessages`]). [`tail_of`] distinguishes what a crash leaves from damage: a later frame is looked for only where its mark occurs, so that no octet is digested
 //! twice for it. [`recover`] gives what a start reads from a zone text and a journal, or why it refuses them.
 //!
 //! A [`Disk`] is what a journal is written to; what a crash leaves of it begins with what was synced. A [`Log`] appends to one: at Ok the batch is on the disk; at an error the journal has
@@ -18,12 +18,13 @@ mod heads;
 mod laws;
 mod log;
 mod parts;
+mod request;
 mod start;
 mod tails;
 
-pub use batch::{put_update, read_batch};
+pub use batch::{put_request, read_batch, write_request};
 pub use disk::Disk;
-pub use frame::{SUM, read_frame, write_frame};
+pub use frame::{BODY_LIMIT, SUM, read_frame, write_frame};
 pub use frames::read_all;
 pub use head_octets::{read_head, write_head};
 pub use heads::{Head, HeadFault, TextSum};
@@ -33,5 +34,6 @@ pub use laws::{
     what_was_synced_is_recovered_first,
 };
 pub use log::{Log, LogFault};
+pub use request::RequestMessages;
 pub use start::{Recovered, Refused, recover, recover_counted};
 pub use tails::{Tail, tail_of};

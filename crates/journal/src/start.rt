@@ -1,6 +1,7 @@
 //! What a start reads from a zone text and a journal (own).
 ghost use Rattle.std.specs.Prelude.{◌≡◌, ◌+◌, ◌*◌, ◌≤◌, ℕ, List, length, map, IfOk, IfErr};
 ghost use Rattle.journal.specs.declared.start.Refused.TheVariants.{BadHead, NoMemory};
+ghost use Rattle.journal.specs.Batch.{Messages};
 ghost use Rattle.journal.specs.Head.{salt_of};
 ghost use Rattle.journal.specs.Recovered.{AreBatches, updates_in, IsRefusedBatch, IsRecovered, IsRefused};
 
@@ -19,8 +20,8 @@ pub struct Recovered<'a> {
     pub head: Head,
     /// The salt of its frames.
     pub salt: [u8; SUM],
-    /// The updates of its batches, as they were received, in the order of their versions.
-    pub updates: Vec<&'a [u8]>,
+    /// The updates of its batches, each as the messages of its request, in the order of their versions.
+    pub updates: Vec<Vec<&'a [u8]>>,
     /// The number of batches, which is the number of the next frame.
     pub number: u64,
     /// The position after the last batch: how many octets of the journal are read.
@@ -64,7 +65,7 @@ impl From<AllocError> for Refused {
 /// The updates of a zone text's journal: those of all batches that follow one another from the first. It allocates memory.
 pub fn recover<'a>(alloc: Global, text: &[u8], journal: &'a [u8]) -> Result<Recovered<'a>, Refused>
     ensures recovered { IfOk result (λ r. (r.salt ≡ salt_of r.head)
-        × IsRecovered text.now journal.now r.head (map (λ update. update.now) r.updates.items) r.number r.end r.torn) }
+        × IsRecovered text.now journal.now r.head (map (λ request. map (λ message. message.now) request.items) r.updates.items) r.number r.end r.torn) }
     ensures refused { IfErr result (λ why. IsRefused text.now journal.now why) }
 {
     let mut digested = 0;
@@ -80,7 +81,7 @@ pub fn recover_counted<'a>(
     journal: &'a [u8],
 ) -> Result<Recovered<'a>, Refused>
     ensures recovered { IfOk result (λ r. (r.salt ≡ salt_of r.head)
-        × IsRecovered text.now journal.now r.head (map (λ update. update.now) r.updates.items) r.number r.end r.torn) }
+        × IsRecovered text.now journal.now r.head (map (λ request. map (λ message. message.now) request.items) r.updates.items) r.number r.end r.torn) }
     ensures refused { IfErr result (λ why. IsRefused text.now journal.now why) }
     ensures count { digested.new ≤ digested.old + 2 * length journal.now }
 {
@@ -108,15 +109,18 @@ pub fn recover_counted<'a>(
 }
 
 /// The updates of these batches, in order.
-fn updates_of<'a>(alloc: Global, bodies: &[&'a [u8]]) -> Result<Vec<&'a [u8]>, Refused>
-    ensures ok { IfOk result (λ updates. (batches : List (List (List ℕ))) × AreBatches (map (λ body. body.now) bodies.now) batches
-        × (map (λ update. update.now) updates.items ≡ updates_in batches)) }
+fn updates_of<'a>(alloc: Global, bodies: &[&'a [u8]]) -> Result<Vec<Vec<&'a [u8]>>, Refused>
+    ensures ok { IfOk result (λ updates. (batches : List (List Messages)) × AreBatches (map (λ body. body.now) bodies.now) batches
+        × (map (λ request. map (λ message. message.now) request.items) updates.items ≡ updates_in batches)) }
     ensures refused { IfErr result (λ why. IsRefusedBatch (map (λ body. body.now) bodies.now) why) }
 {
     let mut updates = Vec::new(alloc);
     for (number, body) in bodies.iter().enumerate() {
         match read_batch(alloc, body)? {
-            Some(batch) => updates.extend_from_slice(&batch)?,
+            Some(batch) => {
+                let mut batch = batch;
+                updates.append(&mut batch)?;
+            }
             None => return Err(Refused::NoBatch(number as u64)),
         }
     }

@@ -10,7 +10,7 @@ pub fn request_of(alloc: Global, octets: Vec<u8>) -> Option<UpdateRequest>
     ensures { IfSome result (λ request. request.may ≡ true) }
 {
     match parse(alloc, &octets) {
-        Parsed::Update(update) => UpdateRequest::of(update, octets, true),
+        Parsed::Update(update) => UpdateRequest::of(alloc, update, octets, true),
         _ => None,
     }
 }

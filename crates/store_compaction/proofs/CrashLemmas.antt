@@ -7,7 +7,7 @@ use Rattle.update_core.specs.Act.{replay}
 use Rattle.dns_engine.specs.Replayed.{EachChanges}
 use Rattle.journal.specs.declared.heads.Head.{Head}
 use Rattle.journal.specs.declared.heads.TextSum.{TextSum}
-use Rattle.journal.specs.Batch.{batch_of}
+use Rattle.journal.specs.Batch.{Messages, batch_of}
 use Rattle.journal.specs.Frame.{frames_of}
 use Rattle.journal.specs.Head.{head_of, salt_of}
 use Rattle.journal.specs.Recovered.{journal_of}
@@ -29,7 +29,7 @@ one_file : (file : Option (List ℕ)) (octets other : List ℕ) → file ≡ Som
 one_file file octets other one two = cc
 
 -- whatever stands behind the batches
-pub crash_started : (folder : Folder) (head : Head) (batches : List (List (List ℕ))) (zone : List Record) (updates : List Update) (left octets text : List ℕ) (start : Recovery)
+pub crash_started : (folder : Folder) (head : Head) (batches : List (List Messages)) (zone : List Record) (updates : List Update) (left octets text : List ℕ) (start : Recovery)
     → Means folder head batches zone updates → HasPair (with_journal folder (journal_of head batches ++ left)) octets text → IsStarted text octets start
     → (start.head ≡ head) × ((more : List Update) × EachChanges zone (updates ++ more) × (start.newest.last.zone ≡ replay zone (updates ++ more))
     × (start.newest.last.number ≡ length (updates ++ more)))
@@ -48,7 +48,7 @@ crash_started folder head batches zone updates left octets text start means pair
     (found.1, synced_taken means.text left head batches zone updates start means.store here)
 
 -- the text that all began from is the same, and so is the last version
-pub same_choice : (text written : List ℕ) (head next : Head) (batches rest : List (List (List ℕ))) (zone : List Record) (updates : List Update) (k number : ℕ)
+pub same_choice : (text written : List ℕ) (head next : Head) (batches rest : List (List Messages)) (zone : List Record) (updates : List Update) (k number : ℕ)
     (random : List ℕ) (start later : Recovery) (origin : Name) (given : List ℕ) (taken : Option Take) (choice : Choice)
     → IsStore text head batches zone updates → k ≤ length updates → IsCreated (replay zone (take k updates)) number random head.origin written next → AreBehind k batches rest
     → IsStarted text (journal_of head batches) start → IsStarted written (journal_of next rest) later

@@ -1,8 +1,8 @@
 -- A trail as the end of a store, and what a compaction leaves.
-use Rattle.std.proofs.Common.{◌≡◌, ℕ, ◌+◌, ◌^◌, ◌<◌, ◌≤◌, List, [], ◌∷◌, ◌++◌, length, take, drop, map, refl, sym, ap, ◌∙◌, subst, length-append, arith}
+use Rattle.std.proofs.Common.{◌≡◌, ℕ, ◌+◌, ◌^◌, ◌<◌, ◌≤◌, List, [], ◌∷◌, ◌++◌, length, take, drop, map, refl, sym, ap, ◌∙◌, subst, append-nil, length-append, arith}
 use Rattle.std.specs.Prelude.{All}
 use Rattle.std.proofs.lemmas.List.{map-append, drop-append-le, take-append-le, length-map, length-drop, drop-drop}
-use Rattle.std.proofs.lemmas.List.Elements.{All-nil, All-cons, All-append}
+use Rattle.std.proofs.lemmas.List.Elements.{All-nil, All-cons, All-head, All-tail, All-append}
 use Rattle.std.proofs.Math.Seq.{drop-append_seam}
 use Rattle.dns_rdata.specs.Record.{Record}
 use Rattle.dns_message.specs.declared.update.Update.{Update}
@@ -13,7 +13,7 @@ use Rattle.update_batches.specs.Batch.{newest_of}
 use Rattle.update_batches.specs.Journal.{AreMadeBy}
 use Rattle.journal.specs.declared.heads.Head.{Head}
 use Rattle.journal.specs.declared.heads.TextSum.{TextSum}
-use Rattle.journal.specs.Batch.{batch_of, IsShort}
+use Rattle.journal.specs.Batch.{Messages, request_octets, batch_of, IsRequest}
 use Rattle.journal.specs.Frame.{body_limit, Fit}
 use Rattle.journal.specs.Recovered.{journal_of, updates_in}
 use Rattle.journal.proofs.FramesLemmas.{fit_more}
@@ -34,16 +34,16 @@ use Rattle.store_compaction.specs.Marked.{bodies_of, IsMarked}
 use Rattle.store_compaction.specs.End.{IsEndOf}
 use Rattle.store_compaction.proofs.RecentLemmas.{versions-append, updates_of-append, followed_is, followed_split, made_behind}
 use Rattle.store_compaction.proofs.MadeLemmas.{Leads, made_leads, changes_both, read_both, read_behind, made_first}
-use Rattle.store_compaction.proofs.MarkedLemmas.{short_steps, batch_long, one_batch, one_more}
+use Rattle.store_compaction.proofs.MarkedLemmas.{short_steps, one_more}
 
 -- the last version of a store is the trail's
-pub last_is : (text : List ℕ) (head : Head) (batches : List (List (List ℕ))) (zone : List Record) (updates : List Update) (trail : TrailState) (k : ℕ)
+pub last_is : (text : List ℕ) (head : Head) (batches : List (List Messages)) (zone : List Record) (updates : List Update) (trail : TrailState) (k : ℕ)
     → IsEndOf text head batches zone updates trail k → (last_in trail).zone ≡ replay zone updates
 last_is text head batches zone updates trail k end =
     let leads : Leads trail.oldest.zone (last_in trail).zone (updates_of trail.steps) = made_leads trail.oldest (versions_in trail.steps) (updates_of trail.steps) end.made in
     let read : AreRead (drop k (updates_in batches)) (drop k updates) = read_behind k (updates_in batches) updates end.store.read in
     let others : leads.updates ≡ drop k updates =
-    read_once (drop k (updates_in batches)) leads.updates (drop k updates) (subst (λ (ms : List (List ℕ)). AreRead ms leads.updates) end.rest leads.read) read in
+    read_once (drop k (updates_in batches)) leads.updates (drop k updates) (subst (λ (ms : List Messages). AreRead ms leads.updates) end.rest leads.read) read in
     leads.same
     ∙ (ap (λ (z : List Record). replay z leads.updates) end.oldest
     ∙ (ap (λ (us : List Update). replay (replay zone (take k updates)) us) others ∙ replay_rest zone updates k))
@@ -54,29 +54,29 @@ pub begun_end : (text : List ℕ) (head : Head) (number keep : ℕ) (random : Li
 begun_end text head number keep random origin version begun = record { store = begun.store; within = omega arith; oldest = refl; rest = refl; made = tt }
 
 -- a store with one batch more
-store_more : (text : List ℕ) (head : Head) (batches : List (List (List ℕ))) (zone : List Record) (updates more : List Update) (batch : List (List ℕ)) → IsStore text head batches zone updates
-    → All IsShort batch → length (batch_of batch) < body_limit → length batches < 2 ^ 64 → AreRead batch more → EachChanges (replay zone updates) more
+store_more : (text : List ℕ) (head : Head) (batches : List (List Messages)) (zone : List Record) (updates more : List Update) (batch : List Messages) → IsStore text head batches zone updates
+    → All IsRequest batch → length (batch_of batch) < body_limit → length batches < 2 ^ 64 → AreRead batch more → EachChanges (replay zone updates) more
     → IsStore text head (batches ++ batch ∷ []) zone (updates ++ more)
 store_more text head batches zone updates more batch store short few counted read taken = record {
   is_head = store.is_head;
   same_text = store.same_text;
   is_zone = store.is_zone;
   serial = store.serial;
-  short = All-append (All IsShort) batches (batch ∷ []) store.short (All-cons (All IsShort) batch [] short (All-nil (All IsShort)));
+  short = All-append (All IsRequest) batches (batch ∷ []) store.short (All-cons (All IsRequest) batch [] short (All-nil (All IsRequest)));
   fit = subst (λ (bodies : List (List ℕ)). Fit 0 bodies) (sym (map-append batch_of batches (batch ∷ [])))
       (fit_more 0 (map batch_of batches) (batch_of batch) store.fit few (omega (arith, length-map batches batch_of, counted)));
-  read = subst (λ (ms : List (List ℕ)). AreRead ms (updates ++ more)) (sym (one_more batches batch)) (read_both (updates_in batches) batch updates more store.read read);
+  read = subst (λ (ms : List Messages). AreRead ms (updates ++ more)) (sym (one_more batches batch)) (read_both (updates_in batches) batch updates more store.read read);
   taken = changes_both zone updates more store.taken taken;
 }
 
 -- the version behind steps that are let go
-record Moved (zone : List Record) (messages : List (List ℕ)) (updates : List Update) (trail after : TrailState) (k : ℕ) : Type 0 where
+record Moved (zone : List Record) (messages : List Messages) (updates : List Update) (trail after : TrailState) (k : ℕ) : Type 0 where
   n : ℕ
   within : k + n ≤ length updates
   oldest : after.oldest.zone ≡ replay zone (take (k + n) updates)
   rest : updates_of after.steps ≡ drop (k + n) messages
 
-moved : (zone : List Record) (messages : List (List ℕ)) (updates : List Update) (trail after : TrailState) (k : ℕ) (gone all : List VersionUpdate) → AreRead messages updates → k ≤ length updates
+moved : (zone : List Record) (messages : List Messages) (updates : List Update) (trail after : TrailState) (k : ℕ) (gone all : List VersionUpdate) → AreRead messages updates → k ≤ length updates
     → trail.oldest.zone ≡ replay zone (take k updates) → updates_of all ≡ drop k messages → AreMadeBy trail.oldest (versions_in all) (updates_of all) → all ≡ gone ++ after.steps
     → after.oldest ≡ newest_of trail.oldest (versions_in gone) → Moved zone messages updates trail after k
 moved zone messages updates trail after k gone all read within oldest rest made parts newest =
@@ -84,16 +84,16 @@ moved zone messages updates trail after k gone all read within oldest rest made 
     let split : updates_of all ≡ updates_of gone ++ updates_of after.steps = ap updates_of parts ∙ updates_of-append gone after.steps in
     let versions : versions_in all ≡ versions_in gone ++ versions_in after.steps = ap versions_in parts ∙ versions-append gone after.steps in
     let both : AreMadeBy trail.oldest (versions_in gone ++ versions_in after.steps) (updates_of gone ++ updates_of after.steps) =
-    subst (λ (us : List (List ℕ)). AreMadeBy trail.oldest (versions_in gone ++ versions_in after.steps) us) split
+    subst (λ (us : List Messages). AreMadeBy trail.oldest (versions_in gone ++ versions_in after.steps) us) split
     (subst (λ (vs : List Version). AreMadeBy trail.oldest vs (updates_of all)) versions made) in
     let many : length (versions_in gone) ≡ length (updates_of gone) =
-    length-map gone (λ (s : VersionUpdate). s.version) ∙ sym (length-map gone (λ (s : VersionUpdate). s.octets.items)) in
+    length-map gone (λ (s : VersionUpdate). s.version) ∙ sym (length-map gone (λ (s : VersionUpdate). s.messages)) in
     let leads = made_leads trail.oldest (versions_in gone) (updates_of gone)
     (made_first trail.oldest (versions_in gone) (versions_in after.steps) (updates_of gone) (updates_of after.steps) many both) in
     let dropped : drop k messages ≡ updates_of gone ++ updates_of after.steps = sym rest ∙ split in
     let behind : AreRead (updates_of gone ++ updates_of after.steps) (drop k updates) =
-    subst (λ (ms : List (List ℕ)). AreRead ms (drop k updates)) dropped (read_behind k messages updates read) in
-    let is_n : length (updates_of gone) ≡ n = length-map gone (λ (s : VersionUpdate). s.octets.items) in
+    subst (λ (ms : List Messages). AreRead ms (drop k updates)) dropped (read_behind k messages updates read) in
+    let is_n : length (updates_of gone) ≡ n = length-map gone (λ (s : VersionUpdate). s.messages) in
     let first : AreRead (updates_of gone) (take n (drop k updates)) =
     subst (λ (m : ℕ). AreRead (updates_of gone) (take m (drop k updates))) is_n (read_first (updates_of gone) (updates_of after.steps) (drop k updates) behind) in
     let same : leads.updates ≡ take n (drop k updates) = read_once (updates_of gone) leads.updates (take n (drop k updates)) leads.read first in
@@ -105,29 +105,29 @@ moved zone messages updates trail after k gone all read within oldest rest made 
           ∙ (leads.same ∙ (ap (λ (z : List Record). replay z leads.updates) oldest
           ∙ (ap (λ (us : List Update). replay (replay zone (take k updates)) us) same ∙ replay_parts zone updates k n)));
       rest = sym (drop-append_seam (updates_of gone) (updates_of after.steps))
-          ∙ (ap (λ (m : ℕ). drop m (updates_of gone ++ updates_of after.steps)) is_n ∙ (ap (λ (ms : List (List ℕ)). drop n ms) (sym dropped) ∙ drop-drop n k messages));
+          ∙ (ap (λ (m : ℕ). drop m (updates_of gone ++ updates_of after.steps)) is_n ∙ (ap (λ (ms : List Messages). drop n ms) (sym dropped) ∙ drop-drop n k messages));
     }
 
 -- a store with a batch more, once its steps follow
-pub end_more : (text : List ℕ) (head : Head) (batches : List (List (List ℕ))) (zone : List Record) (updates : List Update) (trail : TrailState) (k : ℕ) (steps : List VersionUpdate)
+pub end_more : (text : List ℕ) (head : Head) (batches : List (List Messages)) (zone : List Record) (updates : List Update) (trail : TrailState) (k : ℕ) (steps : List VersionUpdate)
     → IsEndOf text head batches zone updates trail k → AreMadeBy (last_in trail) (versions_in steps) (updates_of steps)
     → length (batch_of (updates_of steps)) < body_limit → length batches < 2 ^ 64
     → (more : List Update) × (m : ℕ) × (k ≤ m) × IsEndOf text head (batches ++ updates_of steps ∷ []) zone (updates ++ more) (followed trail steps) m
 end_more text head batches zone updates trail k steps end made few counted =
-    let batch : List (List ℕ) = updates_of steps in
+    let batch : List Messages = updates_of steps in
     let leads = made_leads (last_in trail) (versions_in steps) batch made in
     let more : List Update = leads.updates in
     let last : (last_in trail).zone ≡ replay zone updates = last_is text head batches zone updates trail k end in
     let store : IsStore text head (batches ++ batch ∷ []) zone (updates ++ more) =
     store_more text head batches zone updates more batch end.store (short_steps steps) few counted leads.read (subst (λ (z : List Record). EachChanges z more) last leads.taken) in
-    let messages : List (List ℕ) = updates_in (batches ++ batch ∷ []) in
+    let messages : List Messages = updates_in (batches ++ batch ∷ []) in
     let long : length updates ≡ length (updates_in batches) = read_long (updates_in batches) updates end.store.read in
     let all : updates_of (trail.steps ++ steps) ≡ drop k messages =
     updates_of-append trail.steps steps
-    ∙ (ap (λ (us : List (List ℕ)). us ++ batch) end.rest
-    ∙ (sym (drop-append-le k (updates_in batches) batch (omega (arith, end.within, long))) ∙ ap (λ (ms : List (List ℕ)). drop k ms) (sym (one_more batches batch)))) in
+    ∙ (ap (λ (us : List Messages). us ++ batch) end.rest
+    ∙ (sym (drop-append-le k (updates_in batches) batch (omega (arith, end.within, long))) ∙ ap (λ (ms : List Messages). drop k ms) (sym (one_more batches batch)))) in
     let whole : AreMadeBy trail.oldest (versions_in (trail.steps ++ steps)) (updates_of (trail.steps ++ steps)) =
-    subst (λ (us : List (List ℕ)). AreMadeBy trail.oldest (versions_in (trail.steps ++ steps)) us) (sym (updates_of-append trail.steps steps))
+    subst (λ (us : List Messages). AreMadeBy trail.oldest (versions_in (trail.steps ++ steps)) us) (sym (updates_of-append trail.steps steps))
     (subst (λ (vs : List Version). AreMadeBy trail.oldest vs (updates_of trail.steps ++ batch)) (sym (versions-append trail.steps steps))
     (made_behind trail.oldest (versions_in trail.steps) (versions_in steps) (updates_of trail.steps) batch end.made made)) in
     let split = followed_split trail steps in
@@ -141,36 +141,62 @@ end_more text head batches zone updates trail k steps end made few counted =
       record { store = store; within = move.within; oldest = move.oldest; rest = move.rest; made = (followed_is trail steps end.made made).0 },
     )
 
+-- updates, each as a batch of its own
+abbrev alone : List Messages → List (List Messages)
+alone updates = map (λ (one : Messages). one ∷ []) updates
+
+alone_all : (updates : List Messages) → updates_in (alone updates) ≡ updates
+alone_all [] = refl
+alone_all (one ∷ updates) = ap (λ (us : List Messages). one ∷ us) (alone_all updates)
+
+alone_short : (updates : List Messages) → All IsRequest updates → All (All IsRequest) (alone updates)
+alone_short [] short = All-nil (All IsRequest)
+alone_short (one ∷ updates) short =
+    All-cons (All IsRequest) (one ∷ []) (alone updates) (All-cons IsRequest one [] (All-head IsRequest one updates short) (All-nil IsRequest))
+    (alone_short updates (All-tail IsRequest one updates short))
+
+alone_fit : (number : ℕ) (steps : List VersionUpdate) → number + length steps < 2 ^ 64 → Fit number (map batch_of (alone (updates_of steps)))
+alone_fit number [] few = tt
+alone_fit number (step ∷ steps) few = (
+  subst (λ (o : List ℕ). length o < body_limit) (sym (append-nil (request_octets step.messages))) step.short,
+  omega (arith, few),
+  alone_fit (number + 1) steps (omega (arith, few)),
+)
+
+alone_bodies : (updates : List Messages) → map (λ (one : Messages). batch_of (one ∷ [])) updates ≡ map batch_of (alone updates)
+alone_bodies [] = refl
+alone_bodies (one ∷ updates) = ap (λ (bodies : List (List ℕ)). batch_of (one ∷ []) ∷ bodies) (alone_bodies updates)
+
 -- what is kept of a trail is behind its oldest version
-pub behind_end : (text : List ℕ) (head : Head) (batches : List (List (List ℕ))) (zone : List Record) (updates : List Update) (trail : TrailState) (k : ℕ)
-    → IsEndOf text head batches zone updates trail k → length trail.steps ≤ 8 → AreBehind k batches (updates_of trail.steps ∷ [])
+pub behind_end : (text : List ℕ) (head : Head) (batches : List (List Messages)) (zone : List Record) (updates : List Update) (trail : TrailState) (k : ℕ)
+    → IsEndOf text head batches zone updates trail k → length trail.steps ≤ 8 → AreBehind k batches (alone (updates_of trail.steps))
 behind_end text head batches zone updates trail k end few = record {
-  all = one_batch (updates_of trail.steps) ∙ end.rest;
-  short = All-cons (All IsShort) (updates_of trail.steps) [] (short_steps trail.steps) (All-nil (All IsShort));
-  fit = (omega (arith, batch_long trail.steps, few), omega arith, tt);
+  all = alone_all (updates_of trail.steps) ∙ end.rest;
+  short = alone_short (updates_of trail.steps) (short_steps trail.steps);
+  fit = alone_fit 0 trail.steps (omega (arith, few));
 }
 
-pub marked_end : (compaction : Compaction) (text : List ℕ) (head : Head) (batches : List (List (List ℕ))) (zone : List Record) (updates : List Update) (trail : TrailState) (k : ℕ)
-    → bodies_of compaction ≡ batch_of (updates_of trail.steps) ∷ [] → length trail.steps ≤ 8 → IsEndOf text head batches zone updates trail k → IsMarked k batches compaction
+pub marked_end : (compaction : Compaction) (text : List ℕ) (head : Head) (batches : List (List Messages)) (zone : List Record) (updates : List Update) (trail : TrailState) (k : ℕ)
+    → bodies_of compaction ≡ map (λ messages. batch_of (messages ∷ [])) (updates_of trail.steps) → length trail.steps ≤ 8 → IsEndOf text head batches zone updates trail k → IsMarked k batches compaction
 marked_end compaction text head batches zone updates trail k bodies few end = record {
-  rest = updates_of trail.steps ∷ [];
+  rest = alone (updates_of trail.steps);
   behind = behind_end text head batches zone updates trail k end few;
-  bodies = bodies;
+  bodies = bodies ∙ alone_bodies (updates_of trail.steps);
 }
 
 -- what a compaction leaves is a store
-pub compaction_store : (text written : List ℕ) (head next : Head) (batches : List (List (List ℕ))) (zone : List Record) (updates : List Update) (k number : ℕ)
+pub compaction_store : (text written : List ℕ) (head next : Head) (batches : List (List Messages)) (zone : List Record) (updates : List Update) (k number : ℕ)
     (random : List ℕ) (origin : TextSum) (version : Version) (compaction : Compaction)
     → IsStore text head batches zone updates → version.zone ≡ replay zone (take k updates) → IsCreated version.zone number random origin written next
     → IsMarked k batches compaction
-    → (rest : List (List (List ℕ))) × (bodies_of compaction ≡ map batch_of rest) × IsStore written next rest version.zone (drop k updates)
+    → (rest : List (List Messages)) × (bodies_of compaction ≡ map batch_of rest) × IsStore written next rest version.zone (drop k updates)
 compaction_store text written head next batches zone updates k number random origin version compaction store same begun marked =
     let here : IsStore written next [] (replay zone (take k updates)) [] = subst (λ (z : List Record). IsStore written next [] z []) same begun.store in
     let left = compacted_store text written head next batches marked.rest zone updates k store here marked.behind in
     (marked.rest, marked.bodies, subst (λ (z : List Record). IsStore written next marked.rest z (drop k updates)) (sym same) left)
 
 -- a start of either has the same zone
-pub compaction_started : (text written : List ℕ) (head next : Head) (batches rest : List (List (List ℕ))) (zone : List Record) (updates : List Update) (k : ℕ) (start later : Recovery)
+pub compaction_started : (text written : List ℕ) (head next : Head) (batches rest : List (List Messages)) (zone : List Record) (updates : List Update) (k : ℕ) (start later : Recovery)
     → IsStore text head batches zone updates → k ≤ length updates → IsStore written next rest (replay zone (take k updates)) (drop k updates)
     → IsStarted text (journal_of head batches) start → IsStarted written (journal_of next rest) later
     → (start.newest.last.zone ≡ later.newest.last.zone) × (start.newest.last.number ≡ k + later.newest.last.number)
@@ -180,13 +206,13 @@ compaction_started text written head next batches rest zone updates k start late
     (one.0 ∙ (sym (replay_rest zone updates k) ∙ sym two.0), omega (arith, few, one.1, two.1, length-drop k updates))
 
 -- a trail of the store before is one of the store that is left
-pub end_left : (text written : List ℕ) (head next : Head) (batches rest : List (List (List ℕ))) (zone : List Record) (updates : List Update) (trail : TrailState) (k m : ℕ)
+pub end_left : (text written : List ℕ) (head next : Head) (batches rest : List (List Messages)) (zone : List Record) (updates : List Update) (trail : TrailState) (k m : ℕ)
     → IsEndOf text head batches zone updates trail (k + m) → IsStore written next [] (replay zone (take k updates)) [] → AreBehind k batches rest
     → IsEndOf written next rest (replay zone (take k updates)) (drop k updates) trail m
 end_left text written head next batches rest zone updates trail k m end begun behind = record {
   store = compacted_store text written head next batches rest zone updates k end.store begun behind;
   within = omega (arith, end.within, length-drop k updates);
   oldest = end.oldest ∙ sym (replay_parts zone updates k m);
-  rest = end.rest ∙ (sym (drop-drop m k (updates_in batches)) ∙ ap (λ (ms : List (List ℕ)). drop m ms) (sym behind.all));
+  rest = end.rest ∙ (sym (drop-drop m k (updates_in batches)) ∙ ap (λ (ms : List Messages). drop m ms) (sym behind.all));
   made = end.made;
 }

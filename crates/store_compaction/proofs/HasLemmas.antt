@@ -8,7 +8,7 @@ use Rattle.zone_tree.specs.Version.{Version}
 use Rattle.update_core.specs.Act.{act, replay}
 use Rattle.std.specs.Prelude.{unwrap_or}
 use Rattle.dns_engine.specs.Replayed.{EachChanges}
-use Rattle.journal.specs.Batch.{IsShort}
+use Rattle.journal.specs.Batch.{Messages, IsRequest}
 use Rattle.journal.specs.Recovered.{updates_in}
 use Rattle.update_batches.specs.declared.version_update.VersionUpdate.{VersionUpdate}
 use Rattle.update_batches.specs.Engine.{IsLast}
@@ -30,7 +30,7 @@ changes_first zone [] more each = tt
 changes_first zone (update ∷ updates) more each = (each.0, each.1, changes_first (unwrap_or (act zone update) zone) updates more each.2)
 
 -- messages after others that are read
-read_rest : (messages later : List (List ℕ)) (updates more : List Update) → AreRead messages updates → AreRead (messages ++ later) (updates ++ more) → AreRead later more
+read_rest : (messages later : List Messages) (updates more : List Update) → AreRead messages updates → AreRead (messages ++ later) (updates ++ more) → AreRead later more
 read_rest [] later [] more are all = all
 read_rest [] later (update ∷ updates) more are all = absurd are
 read_rest (message ∷ messages) later [] more are all = absurd are
@@ -38,7 +38,7 @@ read_rest (message ∷ messages) later (update ∷ updates) more are all = read_
 
 module _ {F : Type 0} where
   -- of a store that stands
-  pub has_begun : (text : List ℕ) (batches : List (List (List ℕ))) (zone : List Record) (updates : List Update) (k : ℕ) (store : CompactedState F) (published : List Version)
+  pub has_begun : (text : List ℕ) (batches : List (List Messages)) (zone : List Record) (updates : List Update) (k : ℕ) (store : CompactedState F) (published : List Version)
       → IsAt text batches zone updates k store → IsLast published (last_in (trail_of store.writer)) → HasUpdates zone store published (updates_in batches)
   has_begun text batches zone updates k store published at last = record {
     in_text = [];
@@ -53,7 +53,7 @@ module _ {F : Type 0} where
   }
 
   -- through what is done between two batches
-  pub has_tended : (before after : CompactedState F) → IsTended before after → (zone : List Record) (published : List Version) (updates : List (List ℕ))
+  pub has_tended : (before after : CompactedState F) → IsTended before after → (zone : List Record) (published : List Version) (updates : List Messages)
       → HasUpdates zone before published updates → HasUpdates zone after published updates
   has_tended before after tended zone published updates has =
       let from = (tended.is_present has.text has.batches (replay zone has.in_text) has.in_journal has.k has.is_present).0 in
@@ -73,7 +73,7 @@ module _ {F : Type 0} where
       }
 
   -- of a store that stays
-  pub has_kept : (before after : CompactedState F) → IsKept before after → (zone : List Record) (published : List Version) (updates : List (List ℕ))
+  pub has_kept : (before after : CompactedState F) → IsKept before after → (zone : List Record) (published : List Version) (updates : List Messages)
       → HasUpdates zone before published updates → HasUpdates zone after published updates
   has_kept before after kept zone published updates has = record {
     in_text = has.in_text;
@@ -88,9 +88,9 @@ module _ {F : Type 0} where
   }
 
   -- with one batch more
-  has_stored : (before after : CompactedState F) (versions : List Version) (octets : List (List ℕ)) → IsStored before after versions octets
-      → (zone : List Record) (published : List Version) (updates : List (List ℕ)) (first : Version) → HasUpdates zone before published updates → IsLast published first
-      → All IsShort octets → AreMadeBy first versions octets → HasUpdates zone after (published ++ versions) (updates ++ octets)
+  has_stored : (before after : CompactedState F) (versions : List Version) (octets : List Messages) → IsStored before after versions octets
+      → (zone : List Record) (published : List Version) (updates : List Messages) (first : Version) → HasUpdates zone before published updates → IsLast published first
+      → All IsRequest octets → AreMadeBy first versions octets → HasUpdates zone after (published ++ versions) (updates ++ octets)
   has_stored before after versions octets stored zone published updates first has last short written =
       let old : TrailState = trail_of before.writer in
       let same : first ≡ last_in old = last_once published first (last_in old) last has.last in
@@ -101,7 +101,7 @@ module _ {F : Type 0} where
       let ends = (stored.last has.is_present.end.made short made).1 in
       let parts : has.in_text ++ (has.in_journal ++ with.more) ≡ (has.in_text ++ has.in_journal) ++ with.more = sym (append_assoc has.in_text has.in_journal with.more) in
       let all : AreRead (updates_in has.batches ++ octets) (has.in_journal ++ with.more) =
-      subst (λ (l : List (List ℕ)). AreRead l (has.in_journal ++ with.more)) with.all_are store.read in
+      subst (λ (l : List Messages). AreRead l (has.in_journal ++ with.more)) with.all_are store.read in
       record {
         in_text = has.in_text;
         in_journal = has.in_journal ++ with.more;
@@ -118,13 +118,13 @@ module _ {F : Type 0} where
 
   -- the updates of a batch are stored
   pub has_appended : (updates : List VersionUpdate) (before after : CompactedState F) → IsStored before after (versions_in updates) (updates_of updates)
-      → (zone : List Record) (published : List Version) (stood : List (List ℕ)) (last : Version) → HasUpdates zone before published stood
+      → (zone : List Record) (published : List Version) (stood : List Messages) (last : Version) → HasUpdates zone before published stood
       → IsLast published last → AreMadeBy last (versions_in updates) (updates_of updates) → HasUpdates zone after (published ++ versions_in updates) (stood ++ updates_of updates)
   has_appended updates before after stored zone published stood last has ends made =
       has_stored before after (versions_in updates) (updates_of updates) stored zone published stood last has ends (short_steps updates) made
 
   -- after a crash: what a start has of it is these updates replayed, and some that were written and not told as lasting
-  pub has_recovered : (zone : List Record) (store : CompactedState F) (published : List Version) (updates : List (List ℕ)) (started : List Record)
+  pub has_recovered : (zone : List Record) (store : CompactedState F) (published : List Version) (updates : List Messages) (started : List Record)
       → (has : HasUpdates zone store published updates)
       → (more : List Update) × EachChanges (replay zone has.in_text) (has.in_journal ++ more) × (started ≡ replay (replay zone has.in_text) (has.in_journal ++ more))
       → (all : List Update) × (more : List Update) × AreRead updates all × EachChanges zone (all ++ more) × (started ≡ replay zone (all ++ more))

@@ -10,7 +10,7 @@ use Rattle.update_core.specs.Act.{replay}
 use Rattle.update_batches.specs.Batch.{newest_of, logged}
 use Rattle.update_batches.specs.Journal.{AreMadeBy}
 use Rattle.journal.specs.declared.heads.Head.{Head}
-use Rattle.journal.specs.Batch.{batch_of, IsShort}
+use Rattle.journal.specs.Batch.{Messages, batch_of, IsRequest}
 use Rattle.journal.specs.Frame.{body_limit}
 use Rattle.journal.specs.Recovered.{updates_in}
 use Rattle.journal.specs.declared.log.Log.{Log}
@@ -39,21 +39,21 @@ use Rattle.store_compaction.specs.Kept.{CompactedState, IsAt, IsTended, IsKept, 
 use Rattle.store_compaction.proofs.StandsLemmas.{fit_last, some_is, none_some, IsOnDisk, from_here, stands_alone, stands_stopped, stands_still, stands_begun, stands_replaced}
 
 -- a compaction that follows has been under way
-follows : (before after : Option Compaction) (now : Compaction) (octets : List (List ℕ)) → after ≡ Some now → Adds before after octets
+follows : (before after : Option Compaction) (now : Compaction) (octets : List Messages) → after ≡ Some now → Adds before after octets
     → (was : Compaction) × (before ≡ Some was) × (number_of now ≡ number_of was)
 follows before None now octets is adds = absurd (none_some now is)
 follows None (Some other) now octets is adds = absurd adds
 follows (Some was) (Some other) now octets is adds = (was, refl, ap (λ (c : Compaction). number_of c) (sym (some_is other now is)) ∙ adds.0)
 
 -- the updates of steps make their versions
-pub steps_made : (first : Version) (versions : List Version) (octets : List (List ℕ)) (steps : List VersionUpdate) → AreSteps steps versions octets → AreMadeBy first versions octets
+pub steps_made : (first : Version) (versions : List Version) (octets : List Messages) (steps : List VersionUpdate) → AreSteps steps versions octets → AreMadeBy first versions octets
     → AreMadeBy first (versions_in steps) (updates_of steps)
 steps_made first versions octets steps are made =
-    subst (λ (us : List (List ℕ)). AreMadeBy first (versions_in steps) us) (sym are.updates_are)
+    subst (λ (us : List Messages). AreMadeBy first (versions_in steps) us) (sym are.updates_are)
     (subst (λ (vs : List Version). AreMadeBy first vs octets) (sym are.versions_are) made)
 
 -- what steps make follows
-pub last_follows : (old new : TrailState) (versions : List Version) (octets : List (List ℕ)) (steps : List VersionUpdate) → IsTrail old → AreSteps steps versions octets
+pub last_follows : (old new : TrailState) (versions : List Version) (octets : List Messages) (steps : List VersionUpdate) → IsTrail old → AreSteps steps versions octets
     → new ≡ followed old steps → AreMadeBy (last_in old) versions octets → IsTrail new × (last_in new ≡ newest_of (last_in old) versions)
 last_follows old new versions octets steps trail are is made =
     let found = followed_is old steps trail (steps_made (last_in old) versions octets steps are made) in
@@ -61,7 +61,7 @@ last_follows old new versions octets steps trail are is made =
 
 module _ {F : Type 0} where
   -- nothing is stored
-  pub more_none : (text : List ℕ) (batches : List (List (List ℕ))) (zone : List Record) (updates : List Update) (k : ℕ) (octets : List (List ℕ)) (after : CompactedState F)
+  pub more_none : (text : List ℕ) (batches : List (List Messages)) (zone : List Record) (updates : List Update) (k : ℕ) (octets : List Messages) (after : CompactedState F)
       → length octets ≡ 0 → IsAt text batches zone updates k after → HasMore text batches zone updates octets after
   more_none text batches zone updates k [] after none at = record {
     all = batches;
@@ -74,21 +74,21 @@ module _ {F : Type 0} where
   more_none text batches zone updates k (one ∷ octets) after none at = absurd (omega (arith, none))
 
   -- one batch more is stored
-  pub more_some : (text : List ℕ) (batches : List (List (List ℕ))) (zone : List Record) (updates : List Update) (k : ℕ) (one : List ℕ) (others : List (List ℕ))
+  pub more_some : (text : List ℕ) (batches : List (List Messages)) (zone : List Record) (updates : List Update) (k : ℕ) (one : List ℕ) (others : List Messages)
       (before after : CompactedState F) (versions : List Version) (steps : List VersionUpdate)
       → IsAt text batches zone updates k before → Holds written synced (head_of before.writer) (log_of before.writer) (map batch_of batches)
       → AreSteps steps versions (one ∷ others) → AreMadeBy (last_in (trail_of before.writer)) versions (one ∷ others)
       → trail_of after.writer ≡ followed (trail_of before.writer) steps → head_of after.writer ≡ head_of before.writer → after.wanted ≡ before.wanted
       → Adds (under_way_of before.writer) (under_way_of after.writer) (one ∷ others)
-      → ((m : ℕ) (all : List (List (List ℕ))) (was now : Compaction) → under_way_of before.writer ≡ Some was → under_way_of after.writer ≡ Some now → IsMarked m all was
+      → ((m : ℕ) (all : List (List Messages)) (was now : Compaction) → under_way_of before.writer ≡ Some was → under_way_of after.writer ≡ Some now → IsMarked m all was
       → m ≤ length (updates_in all) → IsMarked m (all ++ (one ∷ others) ∷ []) now)
       → ((head : Head) (bodies : List (List ℕ)) → Holds written synced head (log_of before.writer) bodies → Holds written synced head (log_of after.writer) (logged bodies (one ∷ others)))
       → HasMore text batches zone updates (one ∷ others) after
   more_some text batches zone updates k one others before after versions steps at holds are made trail head wanted adds marks stored =
-      let octets : List (List ℕ) = one ∷ others in
+      let octets : List Messages = one ∷ others in
       let old : StoreWriter FileDisk F = before.writer in
       let new : StoreWriter FileDisk F = after.writer in
-      let all : List (List (List ℕ)) = batches ++ octets ∷ [] in
+      let all : List (List Messages) = batches ++ octets ∷ [] in
       let bodies : map batch_of all ≡ map batch_of batches ++ batch_of octets ∷ [] = map-append batch_of batches (octets ∷ []) in
       let there : Holds written synced (head_of old) (log_of new) (map batch_of batches ++ batch_of octets ∷ []) = stored (head_of old) (map batch_of batches) holds in
       let few = fit_last 0 (map batch_of batches) (batch_of octets) there.fit in
@@ -96,13 +96,13 @@ module _ {F : Type 0} where
       subst (λ (h : Head). Holds written synced h (log_of new) (map batch_of all)) (sym head)
       (subst (λ (bs : List (List ℕ)). Holds written synced (head_of old) (log_of new) bs) (sym bodies) there) in
       let found = end_more text (head_of old) batches zone updates (trail_of old) k steps at.end (steps_made (last_in (trail_of old)) versions octets steps are made)
-      (subst (λ (us : List (List ℕ)). length (batch_of us) < body_limit) (sym are.updates_are) few.0) (omega (arith, few.1, length-map batches batch_of)) in
+      (subst (λ (us : List Messages). length (batch_of us) < body_limit) (sym are.updates_are) few.0) (omega (arith, few.1, length-map batches batch_of)) in
       let more : List Update = found.0 in
       let m : ℕ = found.1 in
       let end : IsEndOf text (head_of new) all zone (updates ++ more) (trail_of new) m =
       subst (λ (h : Head). IsEndOf text h all zone (updates ++ more) (trail_of new) m) (sym head)
       (subst (λ (t : TrailState). IsEndOf text (head_of old) all zone (updates ++ more) t m) (sym trail)
-      (subst (λ (us : List (List ℕ)). IsEndOf text (head_of old) (batches ++ us ∷ []) zone (updates ++ more) (followed (trail_of old) steps) m) are.updates_are found.3)) in
+      (subst (λ (us : List Messages). IsEndOf text (head_of old) (batches ++ us ∷ []) zone (updates ++ more) (followed (trail_of old) steps) m) are.updates_are found.3)) in
       let long : length updates ≡ length (updates_in batches) = read_long (updates_in batches) updates at.end.store.read in
       record {
         all = all;
@@ -161,7 +161,7 @@ module _ {F : Type 0} where
 
   -- a writer that is as it was, where the text is wanted no more
   unplaced : (old new : StoreWriter FileDisk F) (wanted : Wanted) → new ≡ old
-      → (text : List ℕ) (batches : List (List (List ℕ))) (zone : List Record) (updates : List Update) (k : ℕ)
+      → (text : List ℕ) (batches : List (List Messages)) (zone : List Record) (updates : List Update) (k : ℕ)
       → Stands written synced text batches zone updates k old (Some wanted)
       → StandsFrom written synced zone updates new None × ((head_of new).origin ≡ (head_of old).origin)
   unplaced old new wanted same text batches zone updates k is_present = (
@@ -173,7 +173,7 @@ module _ {F : Type 0} where
   -- a journal that replaces another, and one that doesn't
   pub placed_stands : (result : Result Bool PairFault) (old new : StoreWriter FileDisk F) (head : Head) (wanted : Wanted)
       → IfOk result (λ done. GoesOn head old new done) → IfErr result (λ fault. Stops fault old new) → trail_of new ≡ trail_of old → IsWritten wanted head
-      → (text : List ℕ) (batches : List (List (List ℕ))) (zone : List Record) (updates : List Update) (k : ℕ)
+      → (text : List ℕ) (batches : List (List Messages)) (zone : List Record) (updates : List Update) (k : ℕ)
       → Stands written synced text batches zone updates k old (Some wanted)
       → StandsFrom written synced zone updates new None × ((head_of new).origin ≡ (head_of old).origin)
   placed_stands (Ok true) old new head wanted goes stops trail is text batches zone updates k is_present =
@@ -190,7 +190,7 @@ module _ {F : Type 0} where
 
   -- no text is wanted any more, or the same one, of a writer that is as it was
   pub taken_stands : (writer : StoreWriter FileDisk F) (old new : Option Wanted) → (new ≡ old) ⊎ (new ≡ None)
-      → (text : List ℕ) (batches : List (List (List ℕ))) (zone : List Record) (updates : List Update) (k : ℕ)
+      → (text : List ℕ) (batches : List (List Messages)) (zone : List Record) (updates : List Update) (k : ℕ)
       → Stands written synced text batches zone updates k writer old
       → StandsFrom written synced zone updates writer new × ((head_of writer).origin ≡ (head_of writer).origin)
   taken_stands writer old new (inl same) text batches zone updates k is_present = (
@@ -206,10 +206,10 @@ module _ {F : Type 0} where
   -- the journal of a text that was wanted is in place, or isn't
   pub taken_placed : (before after : StoreWriter FileDisk F) (old new : Option Wanted) (head : Head) → new ≡ None
       → ((wanted : Wanted) × (old ≡ Some wanted) × IsWritten wanted head)
-      → ((wanted : Wanted) → IsWritten wanted head → (text : List ℕ) (batches : List (List (List ℕ))) (zone : List Record) (updates : List Update) (k : ℕ)
+      → ((wanted : Wanted) → IsWritten wanted head → (text : List ℕ) (batches : List (List Messages)) (zone : List Record) (updates : List Update) (k : ℕ)
       → Stands written synced text batches zone updates k before (Some wanted)
       → StandsFrom written synced zone updates after None × ((head_of after).origin ≡ (head_of before).origin))
-      → (text : List ℕ) (batches : List (List (List ℕ))) (zone : List Record) (updates : List Update) (k : ℕ)
+      → (text : List ℕ) (batches : List (List Messages)) (zone : List Record) (updates : List Update) (k : ℕ)
       → Stands written synced text batches zone updates k before old
       → StandsFrom written synced zone updates after new × ((head_of after).origin ≡ (head_of before).origin)
   taken_placed before after old new head none is placed text batches zone updates k is_present =
@@ -220,7 +220,7 @@ module _ {F : Type 0} where
   pub begun_stands : (before after : StoreWriter FileDisk F) (old new : Option Wanted) (next : NextText) (last : ℕ)
       → (new ≡ Some (wanted_of next (head_of after))) ⊎ (new ≡ None)
       → trail_of after ≡ trail_of before → head_of after ≡ head_of before → log_of after ≡ log_of before → Begins (trail_of before) last next (under_way_of after)
-      → (text : List ℕ) (batches : List (List (List ℕ))) (zone : List Record) (updates : List Update) (k : ℕ)
+      → (text : List ℕ) (batches : List (List Messages)) (zone : List Record) (updates : List Update) (k : ℕ)
       → (IsEndOf text (head_of before) batches zone updates (trail_of before) k → IfSome (under_way_of after) (IsMarked k batches))
       → Stands written synced text batches zone updates k before old → Stands written synced text batches zone updates k after new
   begun_stands before after old new next last which trail head log begins text batches zone updates k marked is_present =
@@ -235,14 +235,14 @@ module _ {F : Type 0} where
   -- a store is tended by what becomes of its parts
   pub tended_parts : (before : CompactedState F) (old new : StoreWriter FileDisk F) (was now : Option Wanted) → record { writer = old; wanted = was } ≡ before
       → trail_of new ≡ trail_of old
-      → ((text : List ℕ) (batches : List (List (List ℕ))) (zone : List Record) (updates : List Update) (k : ℕ) → Stands written synced text batches zone updates k old was
+      → ((text : List ℕ) (batches : List (List Messages)) (zone : List Record) (updates : List Update) (k : ℕ) → Stands written synced text batches zone updates k old was
       → StandsFrom written synced zone updates new now × ((head_of new).origin ≡ (head_of old).origin))
       → IsTended before (record { writer = new; wanted = now })
   tended_parts before old new was now is trail is_present =
       subst (λ (s : CompactedState F). IsTended s (record { writer = new; wanted = now })) is (record { trail = trail; is_present = is_present })
 
   -- where there is no update nothing is stored
-  pub stored_none : (state : CompactedState F) (versions : List Version) (octets : List (List ℕ)) → length octets ≡ 0 → IsStored state state versions octets
+  pub stored_none : (state : CompactedState F) (versions : List Version) (octets : List Messages) → length octets ≡ 0 → IsStored state state versions octets
   stored_none state [] [] none = record {
     origin = refl;
     last = λ trail short made. (trail, refl);
@@ -266,7 +266,7 @@ module _ {F : Type 0} where
       → ((head : Head) (bodies : List (List ℕ)) → Holds written synced head (log_of old) bodies → Holds written synced head (log_of new) (logged bodies (updates_of updates)))
       → (steps : List VersionUpdate) × AreSteps steps (versions_in updates) (updates_of updates) × (trail_of new ≡ followed (trail_of old) steps)
       → Adds (under_way_of old) (under_way_of new) (updates_of updates)
-      → (0 < length updates → (k : ℕ) (batches : List (List (List ℕ))) (was now : Compaction)
+      → (0 < length updates → (k : ℕ) (batches : List (List Messages)) (was now : Compaction)
       → under_way_of old ≡ Some was → under_way_of new ≡ Some now → IsMarked k batches was → k ≤ length (updates_in batches) → IsMarked k (batches ++ updates_of updates ∷ []) now)
       → head_of new ≡ head_of old
       → IsStored (record { writer = old; wanted = wanted }) (record { writer = new; wanted = wanted }) (versions_in updates) (updates_of updates)
@@ -275,7 +275,7 @@ module _ {F : Type 0} where
     origin = ap (λ (h : Head). h.origin) head;
     last = λ is short made. last_follows (trail_of old) (trail_of new) (versions_in (one ∷ others)) (updates_of (one ∷ others)) found.0 is found.1 found.2 made;
     is_present = λ short made text batches zone updates k at.
-        more_some text batches zone updates k one.octets.items (updates_of others) (record { writer = old; wanted = wanted }) (record { writer = new; wanted = wanted })
+        more_some text batches zone updates k one.messages (updates_of others) (record { writer = old; wanted = wanted }) (record { writer = new; wanted = wanted })
         (versions_in (one ∷ others)) found.0 at (goes_on (head_of old) (log_of old) (map batch_of batches) at.log on) found.1 made found.2 head refl way
         (λ m all was now. marks (omega arith) m all was now) stored;
   }
@@ -286,7 +286,7 @@ module _ {F : Type 0} where
       → ((head : Head) (bodies : List (List ℕ)) → Holds written synced head (log_of old) bodies → Holds written synced head (log_of new) (logged bodies (updates_of updates)))
       → (steps : List VersionUpdate) × AreSteps steps (versions_in updates) (updates_of updates) × (trail_of new ≡ followed (trail_of old) steps)
       → Adds (under_way_of old) (under_way_of new) (updates_of updates)
-      → (0 < length updates → (k : ℕ) (batches : List (List (List ℕ))) (was now : Compaction)
+      → (0 < length updates → (k : ℕ) (batches : List (List Messages)) (was now : Compaction)
       → under_way_of old ≡ Some was → under_way_of new ≡ Some now → IsMarked k batches was → k ≤ length (updates_in batches) → IsMarked k (batches ++ updates_of updates ∷ []) now)
       → head_of new ≡ head_of old
       → IsStored before (record { writer = new; wanted = wanted }) (versions_in updates) (updates_of updates)

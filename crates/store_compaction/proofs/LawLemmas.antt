@@ -6,7 +6,7 @@ use Rattle.zone_tree.specs.Version.{Version}
 use Rattle.update_core.specs.Act.{replay}
 use Rattle.dns_engine.specs.Replayed.{EachChanges}
 use Rattle.journal.specs.declared.heads.Head.{Head}
-use Rattle.journal.specs.Batch.{batch_of}
+use Rattle.journal.specs.Batch.{Messages, batch_of}
 use Rattle.journal.specs.Recovered.{journal_of}
 use Rattle.journal.proofs.RecoveredLemmas.{synced_recovered}
 use Rattle.journal.specs.declared.log.Log.{Log}
@@ -32,7 +32,7 @@ module _ {F : Type 0} where
   disk_is head log bodies (inl holds) = holds.is_synced
   disk_is head log bodies (inr stuck) = stuck.is_synced
 
-  pub crash_has_last : (text : List ℕ) (batches : List (List (List ℕ))) (zone : List Record) (updates : List Update) (k : ℕ) (state : CompactedState F) (left : List ℕ) (start : Recovery)
+  pub crash_has_last : (text : List ℕ) (batches : List (List Messages)) (zone : List Record) (updates : List Update) (k : ℕ) (state : CompactedState F) (left : List ℕ) (start : Recovery)
       → IsAt text batches zone updates k state → IsStarted text (synced (disk_of (log_of state.writer)) ++ left) start
       → ((last_in (trail_of state.writer)).zone ≡ replay zone updates) × (start.head ≡ head_of state.writer)
       × ((more : List Update) × EachChanges zone (updates ++ more) × (start.newest.last.zone ≡ replay zone (updates ++ more)) × (start.newest.last.number ≡ length (updates ++ more)))
@@ -47,7 +47,7 @@ module _ {F : Type 0} where
         synced_taken text left head batches zone updates start store here,
       )
 
-  pub tended_started : (text : List ℕ) (batches : List (List (List ℕ))) (zone : List Record) (updates : List Update) (k : ℕ) (before after : CompactedState F) (start later : Recovery)
+  pub tended_started : (text : List ℕ) (batches : List (List Messages)) (zone : List Record) (updates : List Update) (k : ℕ) (before after : CompactedState F) (start later : Recovery)
       → IsAt text batches zone updates k before → (from : StandsFrom written synced zone updates after.writer after.wanted)
       → IsStarted text (journal_of (head_of before.writer) batches) start → IsStarted from.text (journal_of (head_of after.writer) from.batches) later
       → (start.newest.last.zone ≡ later.newest.last.zone) × (start.newest.last.number ≡ from.n + later.newest.last.number)
@@ -55,7 +55,7 @@ module _ {F : Type 0} where
       compaction_started text from.text (head_of before.writer) (head_of after.writer) batches from.batches zone updates from.n start later at.end.store from.within
       from.is_present.end.store is is_later
 
-  pub kept_recovered : (zone : List Record) (store : CompactedState F) (published : List Version) (updates : List (List ℕ)) (left : List ℕ) (start : Recovery)
+  pub kept_recovered : (zone : List Record) (store : CompactedState F) (published : List Version) (updates : List Messages) (left : List ℕ) (start : Recovery)
       → (has : HasUpdates zone store published updates) → IsStarted has.text (synced (disk_of (log_of store.writer)) ++ left) start
       → (all : List Update) × (more : List Update) × AreRead updates all × EachChanges zone (all ++ more) × (start.newest.last.zone ≡ replay zone (all ++ more))
   kept_recovered zone store published updates left start has is =

@@ -5,7 +5,7 @@ use Rattle.dns_rdata.specs.Record.{Record}
 use Rattle.zone_tree.specs.Version.{Version}
 use Rattle.journal.specs.declared.heads.Head.{Head}
 use Rattle.journal.specs.declared.log.Log.{Log}
-use Rattle.journal.specs.Batch.{batch_of}
+use Rattle.journal.specs.Batch.{Messages, batch_of}
 use Rattle.journal.specs.Disk.{BeginsWith, LeavesOnly}
 use Rattle.journal.specs.Frame.{frames_of}
 use Rattle.journal.specs.Head.{head_of as head_octets, salt_of}
@@ -30,7 +30,7 @@ each_begins P octets holds (left ∷ since) each = (holds left each.0, each_begi
 
 module _ {F : Type 0} where
   -- of a journal that begins with what is on disk of a store's
-  begins_recovered : (zone : List Record) (store : CompactedState F) (published : List Version) (updates : List (List ℕ)) (has : HasUpdates zone store published updates)
+  begins_recovered : (zone : List Record) (store : CompactedState F) (published : List Version) (updates : List Messages) (has : HasUpdates zone store published updates)
       (octets : List ℕ) → BeginsWith octets (synced (disk_of (log_of store.writer))) → IsRecovered zone updates has.text octets
   begins_recovered zone store published updates has octets begins =
       let there : List ℕ = synced (disk_of (log_of store.writer)) in
@@ -50,7 +50,7 @@ module _ {F : Type 0} where
       }
 
   -- a store on which no call is made
-  pub leaves_same : (old new : CompactedState F) → log_of new.writer ≡ log_of old.writer → (zone : List Record) (published : List Version) (updates : List (List ℕ))
+  pub leaves_same : (old new : CompactedState F) → log_of new.writer ≡ log_of old.writer → (zone : List Record) (published : List Version) (updates : List Messages)
       → HasUpdates zone old published updates → Leaves zone old new updates
   leaves_same old new same zone published updates has = same_file has.text [] (ap (λ (l : Log FileDisk F). history (disk_of l)) same) tt
 
@@ -59,7 +59,7 @@ module _ {F : Type 0} where
       → is_stuck (log_of old) ≡ false
       → ((head : Head) (bodies : List (List ℕ)) → Holds written synced head (log_of old) bodies
       → LeavesOnly (history (disk_of (log_of old))) (history (disk_of (log_of new))) (octets_of head bodies))
-      → (zone : List Record) (published : List Version) (updates : List (List ℕ)) → HasUpdates zone before published updates
+      → (zone : List Record) (published : List Version) (updates : List Messages) → HasUpdates zone before published updates
       → Leaves zone before (record { writer = new; wanted = wanted }) updates
   leaves_appended before old new wanted is on crash zone published updates =
       subst (λ (s : CompactedState F). HasUpdates zone s published updates → Leaves zone s (record { writer = new; wanted = wanted }) updates) is
@@ -74,7 +74,7 @@ module _ {F : Type 0} where
 
   -- a store that is tended: the journal stays the same file, or another file is the journal
   pub leaves_tended : (before mid after : CompactedState F) → IsPlaced before.writer mid.writer → log_of after.writer ≡ log_of mid.writer
-      → (zone : List Record) (published : List Version) (updates : List (List ℕ)) → HasUpdates zone before published updates → HasUpdates zone after published updates
+      → (zone : List Record) (published : List Version) (updates : List Messages) → HasUpdates zone before published updates → HasUpdates zone after published updates
       → Leaves zone before after updates
   leaves_tended before mid after (inl same) log zone published updates had has =
       same_file had.text [] (ap history (ap (λ (l : Log FileDisk F). disk_of l) log ∙ same)) tt

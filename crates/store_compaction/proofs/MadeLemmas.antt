@@ -1,4 +1,5 @@
 -- Versions that are made by updates, as a replay of these.
+use Rattle.journal.specs.Batch.{Messages}
 use Rattle.std.proofs.Common.{◌≡◌, ℕ, zero, suc, List, [], ◌∷◌, ◌++◌, length, drop, unwrap_or, refl, sym, ap, ◌∙◌, subst, arith}
 use Rattle.dns_rdata.specs.Record.{Record}
 use Rattle.dns_message.specs.declared.update.Update.{Update}
@@ -11,13 +12,13 @@ use Rattle.update_batches.specs.Journal.{AreMadeBy}
 use Rattle.store_recovery.specs.Replay.{AreRead}
 
 -- messages are read as updates that make of a zone this one, each of which changes what those before it leave
-pub record Leads (zone last : List Record) (messages : List (List ℕ)) : Type 0 where
+pub record Leads (zone last : List Record) (messages : List Messages) : Type 0 where
   pub updates : List Update
   pub read : AreRead messages updates
   pub taken : EachChanges zone updates
   pub same : last ≡ replay zone updates
 
-pub made_leads : (first : Version) (versions : List Version) (messages : List (List ℕ)) → AreMadeBy first versions messages → Leads first.zone (newest_of first versions).zone messages
+pub made_leads : (first : Version) (versions : List Version) (messages : List Messages) → AreMadeBy first versions messages → Leads first.zone (newest_of first versions).zone messages
 made_leads first [] [] are = record { updates = []; read = tt; taken = tt; same = refl }
 made_leads first [] (octets ∷ messages) are = absurd are
 made_leads first (version ∷ versions) [] are = absurd are
@@ -42,14 +43,14 @@ pub replay_both : (zone : List Record) (updates more : List Update) → replay z
 replay_both zone [] more = refl
 replay_both zone (update ∷ updates) more = replay_both (unwrap_or (act zone update) zone) updates more
 
-pub read_both : (messages others : List (List ℕ)) (updates more : List Update) → AreRead messages updates → AreRead others more → AreRead (messages ++ others) (updates ++ more)
+pub read_both : (messages others : List Messages) (updates more : List Update) → AreRead messages updates → AreRead others more → AreRead (messages ++ others) (updates ++ more)
 read_both [] others [] more are behind = behind
 read_both [] others (update ∷ updates) more are behind = absurd are
 read_both (message ∷ messages) others [] more are behind = absurd are
 read_both (message ∷ messages) others (update ∷ updates) more are behind = (are.0, read_both messages others updates more are.1 behind)
 
 -- messages behind the first ones
-pub read_behind : (k : ℕ) (messages : List (List ℕ)) (updates : List Update) → AreRead messages updates → AreRead (drop k messages) (drop k updates)
+pub read_behind : (k : ℕ) (messages : List Messages) (updates : List Update) → AreRead messages updates → AreRead (drop k messages) (drop k updates)
 read_behind zero messages updates are = are
 read_behind (suc k) [] [] are = tt
 read_behind (suc k) [] (update ∷ updates) are = absurd are
@@ -57,7 +58,7 @@ read_behind (suc k) (message ∷ messages) [] are = absurd are
 read_behind (suc k) (message ∷ messages) (update ∷ updates) are = read_behind k messages updates are.1
 
 -- versions that are made with others behind them
-pub made_first : (first : Version) (versions more : List Version) (updates others : List (List ℕ)) → length versions ≡ length updates → AreMadeBy first (versions ++ more) (updates ++ others)
+pub made_first : (first : Version) (versions more : List Version) (updates others : List Messages) → length versions ≡ length updates → AreMadeBy first (versions ++ more) (updates ++ others)
     → AreMadeBy first versions updates
 made_first first [] more [] others many are = tt
 made_first first [] more (octets ∷ updates) others many are = absurd (omega (arith, many))

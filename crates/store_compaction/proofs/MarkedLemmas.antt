@@ -4,11 +4,10 @@ use Rattle.std.specs.Prelude.{All}
 use Rattle.std.proofs.lemmas.List.{map-append, append-nil, drop-append-le, length-map, length-take-le, take_more, take_all}
 use Rattle.std.proofs.lemmas.List.Elements.{All-nil, All-cons, All-append}
 use Rattle.journal.specs.declared.heads.Head.{Head}
-use Rattle.journal.specs.Batch.{counted, batch_of, IsShort}
+use Rattle.journal.specs.Batch.{Messages, batch_of, IsRequest}
 use Rattle.journal.specs.Frame.{body_limit, Fit, framed, frames_of}
 use Rattle.journal.specs.Head.{head_of, salt_of}
 use Rattle.journal.specs.Recovered.{updates_in}
-use Rattle.journal.proofs.BatchLemmas.{counted_long}
 use Rattle.journal.proofs.FramesLemmas.{fit_more, frames_push}
 use Rattle.journal.specs.Log.{octets_of}
 use Rattle.store_recovery.proofs.CutLemmas.{updates-append}
@@ -20,15 +19,10 @@ use Rattle.update_batches.specs.declared.version_update.VersionUpdate.{VersionUp
 use Rattle.update_batches.specs.Batch.{updates_of}
 use Rattle.store_compaction.specs.Marked.{bodies_of, IsMarked, IsNextJournal}
 
--- the updates of steps are short, and so is their batch
-pub short_steps : (steps : List VersionUpdate) → All IsShort (updates_of steps)
-short_steps [] = All-nil IsShort
-short_steps (step ∷ steps) = All-cons IsShort step.octets.items (updates_of steps) step.short (short_steps steps)
-
-pub batch_long : (steps : List VersionUpdate) → length (batch_of (updates_of steps)) ≤ 65537 * length steps
-batch_long [] = omega arith
-batch_long (step ∷ steps) =
-    omega (arith, length-append (counted step.octets.items) (batch_of (updates_of steps)), counted_long step.octets.items, step.short, batch_long steps)
+-- the updates of steps are requests
+pub short_steps : (steps : List VersionUpdate) → All IsRequest (updates_of steps)
+short_steps [] = All-nil IsRequest
+short_steps (step ∷ steps) = All-cons IsRequest step.messages (updates_of steps) step.request (short_steps steps)
 
 -- bodies that are short fit a journal
 pub fit_bodies : (number : ℕ) (bodies : List Body) → number + length bodies < 2 ^ 64 → Fit number (map (λ body. body.octets.items) bodies)
@@ -63,27 +57,27 @@ next_from head all n next whole octets salts number few = record {
 }
 
 -- the updates of one batch, and of one more
-pub one_batch : (batch : List (List ℕ)) → updates_in (batch ∷ []) ≡ batch
+pub one_batch : (batch : List Messages) → updates_in (batch ∷ []) ≡ batch
 one_batch batch = append-nil batch
 
-pub one_more : (batches : List (List (List ℕ))) (batch : List (List ℕ)) → updates_in (batches ++ batch ∷ []) ≡ updates_in batches ++ batch
-one_more batches batch = updates-append batches (batch ∷ []) ∙ ap (λ (us : List (List ℕ)). updates_in batches ++ us) (one_batch batch)
+pub one_more : (batches : List (List Messages)) (batch : List Messages) → updates_in (batches ++ batch ∷ []) ≡ updates_in batches ++ batch
+one_more batches batch = updates-append batches (batch ∷ []) ∙ ap (λ (us : List Messages). updates_in batches ++ us) (one_batch batch)
 
 -- batches behind the first updates of a store, once it has one batch more
-pub behind_more : (k : ℕ) (batches rest : List (List (List ℕ))) (batch : List (List ℕ)) → AreBehind k batches rest → k ≤ length (updates_in batches) → All IsShort batch
+pub behind_more : (k : ℕ) (batches rest : List (List Messages)) (batch : List Messages) → AreBehind k batches rest → k ≤ length (updates_in batches) → All IsRequest batch
     → length (batch_of batch) < body_limit → length rest < 2 ^ 64 → AreBehind k (batches ++ batch ∷ []) (rest ++ batch ∷ [])
 behind_more k batches rest batch behind within short few counted = record {
   all = one_more rest batch
-      ∙ (ap (λ (us : List (List ℕ)). us ++ batch) behind.all
-      ∙ (sym (drop-append-le k (updates_in batches) batch within) ∙ ap (λ (us : List (List ℕ)). drop k us) (sym (one_more batches batch))));
-  short = All-append (All IsShort) rest (batch ∷ []) behind.short (All-cons (All IsShort) batch [] short (All-nil (All IsShort)));
+      ∙ (ap (λ (us : List Messages). us ++ batch) behind.all
+      ∙ (sym (drop-append-le k (updates_in batches) batch within) ∙ ap (λ (us : List Messages). drop k us) (sym (one_more batches batch))));
+  short = All-append (All IsRequest) rest (batch ∷ []) behind.short (All-cons (All IsRequest) batch [] short (All-nil (All IsRequest)));
   fit = subst (λ (bodies : List (List ℕ)). Fit 0 bodies) (sym (map-append batch_of rest (batch ∷ [])))
       (fit_more 0 (map batch_of rest) (batch_of batch) behind.fit few (omega (arith, length-map rest batch_of, counted)));
 }
 
 -- what is kept, once it has one batch more
-pub marked_more : (k : ℕ) (batches : List (List (List ℕ))) (batch : List (List ℕ)) (body : List ℕ) (old new : Compaction) → IsMarked k batches old → k ≤ length (updates_in batches)
-    → All IsShort batch → body ≡ batch_of batch → length body < body_limit → length old.bodies.items < 2 ^ 64 → bodies_of new ≡ bodies_of old ++ body ∷ []
+pub marked_more : (k : ℕ) (batches : List (List Messages)) (batch : List Messages) (body : List ℕ) (old new : Compaction) → IsMarked k batches old → k ≤ length (updates_in batches)
+    → All IsRequest batch → body ≡ batch_of batch → length body < body_limit → length old.bodies.items < 2 ^ 64 → bodies_of new ≡ bodies_of old ++ body ∷ []
     → IsMarked k (batches ++ batch ∷ []) new
 marked_more k batches batch body old new marked within short is few counted followed =
     let many : length marked.rest ≡ length old.bodies.items =

@@ -1,4 +1,5 @@
 -- A trail that follows versions that are published.
+use Rattle.journal.specs.Batch.{Messages}
 use Rattle.std.proofs.Common.{◌≡◌, ℕ, Bool, true, false, nat_lt, List, [], ◌∷◌, ◌++◌, length, if◌then◌else◌, refl, sym, ap, ◌∙◌, subst, append_assoc}
 use Rattle.std.proofs.lemmas.List.{map-append, append-nil}
 use Rattle.zone_tree.specs.Version.{Version}
@@ -9,7 +10,7 @@ use Rattle.store_compaction.specs.RecentUpdates.{TrailState, IsTrail, last_in, s
 use Rattle.update_batches.specs.Batch.{versions_in, updates_of}
 
 -- what is made behind versions that are made of a first one
-pub made_behind : (first : Version) (versions more : List Version) (updates others : List (List ℕ)) → AreMadeBy first versions updates → AreMadeBy (newest_of first versions) more others
+pub made_behind : (first : Version) (versions more : List Version) (updates others : List Messages) → AreMadeBy first versions updates → AreMadeBy (newest_of first versions) more others
     → AreMadeBy first (versions ++ more) (updates ++ others)
 made_behind first [] more [] others are behind = behind
 made_behind first [] more (octets ∷ updates) others are behind = absurd are
@@ -25,7 +26,7 @@ pub versions-append : (steps more : List VersionUpdate) → versions_in (steps +
 versions-append steps more = map-append (λ (step : VersionUpdate). step.version) steps more
 
 pub updates_of-append : (steps more : List VersionUpdate) → updates_of (steps ++ more) ≡ updates_of steps ++ updates_of more
-updates_of-append steps more = map-append (λ (step : VersionUpdate). step.octets.items) steps more
+updates_of-append steps more = map-append (λ (step : VersionUpdate). step.messages) steps more
 
 -- a trail without the first of its steps
 shortened_is : (trail : TrailState) (steps : List VersionUpdate) → AreMadeBy trail.oldest (versions_in steps) (updates_of steps) → trail.steps ≡ steps
@@ -42,14 +43,14 @@ room_at trail true is = shortened_is trail trail.steps is refl
 room_at trail false is = (is, refl)
 
 -- with one step more
-pushed_is : (trail : TrailState) (step : VersionUpdate) → IsTrail trail → AreMadeBy (last_in trail) (step.version ∷ []) (step.octets.items ∷ [])
+pushed_is : (trail : TrailState) (step : VersionUpdate) → IsTrail trail → AreMadeBy (last_in trail) (step.version ∷ []) (step.messages ∷ [])
     → IsTrail (pushed trail step) × (last_in (pushed trail step) ≡ step.version)
 pushed_is trail step is made =
-    let all : AreMadeBy trail.oldest (versions_in trail.steps ++ step.version ∷ []) (updates_of trail.steps ++ step.octets.items ∷ []) =
-    made_behind trail.oldest (versions_in trail.steps) (step.version ∷ []) (updates_of trail.steps) (step.octets.items ∷ []) is made in
+    let all : AreMadeBy trail.oldest (versions_in trail.steps ++ step.version ∷ []) (updates_of trail.steps ++ step.messages ∷ []) =
+    made_behind trail.oldest (versions_in trail.steps) (step.version ∷ []) (updates_of trail.steps) (step.messages ∷ []) is made in
     let here : IsTrail (longer trail step) =
-    subst (λ (us : List (List ℕ)). AreMadeBy trail.oldest (versions_in (trail.steps ++ step ∷ [])) us) (sym (updates_of-append trail.steps (step ∷ [])))
-    (subst (λ (vs : List Version). AreMadeBy trail.oldest vs (updates_of trail.steps ++ step.octets.items ∷ [])) (sym (versions-append trail.steps (step ∷ []))) all) in
+    subst (λ (us : List Messages). AreMadeBy trail.oldest (versions_in (trail.steps ++ step ∷ [])) us) (sym (updates_of-append trail.steps (step ∷ [])))
+    (subst (λ (vs : List Version). AreMadeBy trail.oldest vs (updates_of trail.steps ++ step.messages ∷ [])) (sym (versions-append trail.steps (step ∷ []))) all) in
     let room = room_at (longer trail step) (nat_lt trail.keep (length (trail.steps ++ step ∷ []))) here in (
       room.0,
       room.1 ∙ (ap (newest_of trail.oldest) (versions-append trail.steps (step ∷ [])) ∙ newest_behind trail.oldest (versions_in trail.steps) (step.version ∷ [])),

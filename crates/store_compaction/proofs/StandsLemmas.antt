@@ -6,7 +6,7 @@ use Rattle.dns_message.specs.declared.update.Update.{Update}
 use Rattle.zone_tree.specs.Version.{Version}
 use Rattle.update_core.specs.Act.{replay}
 use Rattle.journal.specs.declared.heads.Head.{Head}
-use Rattle.journal.specs.Batch.{batch_of}
+use Rattle.journal.specs.Batch.{Messages, batch_of}
 use Rattle.journal.specs.Frame.{body_limit, Fit}
 use Rattle.journal.specs.declared.log.Log.{Log}
 use Rattle.journal.specs.Log.{Holds, IsStuck}
@@ -38,7 +38,7 @@ pub none_some : {X : Type 0} (one : X) → None ≡ Some one → ⊥
 none_some one is = cc
 
 -- the end of a store, by equal parts
-end_same : (text : List ℕ) (head other : Head) (batches : List (List (List ℕ))) (zone : List Record) (updates : List Update) (trail same : TrailState) (k : ℕ)
+end_same : (text : List ℕ) (head other : Head) (batches : List (List Messages)) (zone : List Record) (updates : List Update) (trail same : TrailState) (k : ℕ)
     → other ≡ head → same ≡ trail → IsEndOf text head batches zone updates trail k → IsEndOf text other batches zone updates same k
 end_same text head other batches zone updates trail same k head_is trail_is end =
     subst (λ (h : Head). IsEndOf text h batches zone updates same k) (sym head_is) (subst (λ (t : TrailState). IsEndOf text head batches zone updates t k) (sym trail_is) end)
@@ -53,12 +53,12 @@ module _ {D F : Type 0} (written synced : D → List ℕ) where
       subst (λ (h : Head). IsOnDisk h same bodies) (sym head_is) (subst (λ (l : Log D F). IsOnDisk head l bodies) (sym log_is) on_disk)
 
   -- the store that stands is one from its first version on
-  pub from_here : (text : List ℕ) (batches : List (List (List ℕ))) (zone : List Record) (updates : List Update) (k : ℕ) (writer : StoreWriter D F) (wanted : Option Wanted)
+  pub from_here : (text : List ℕ) (batches : List (List Messages)) (zone : List Record) (updates : List Update) (k : ℕ) (writer : StoreWriter D F) (wanted : Option Wanted)
       → Stands written synced text batches zone updates k writer wanted → StandsFrom written synced zone updates writer wanted
   from_here text batches zone updates k writer wanted is_present = record { n = 0; within = omega arith; text = text; batches = batches; k = k; is_present = is_present }
 
   -- so it does where no text is wanted any more
-  pub stands_alone : (text : List ℕ) (batches : List (List (List ℕ))) (zone : List Record) (updates : List Update) (k : ℕ) (writer : StoreWriter D F) (wanted : Option Wanted)
+  pub stands_alone : (text : List ℕ) (batches : List (List Messages)) (zone : List Record) (updates : List Update) (k : ℕ) (writer : StoreWriter D F) (wanted : Option Wanted)
       → Stands written synced text batches zone updates k writer wanted → Stands written synced text batches zone updates k writer None
   stands_alone text batches zone updates k writer wanted is_present = record {
     end = is_present.end;
@@ -68,7 +68,7 @@ module _ {D F : Type 0} (written synced : D → List ℕ) where
   }
 
   -- a writer with the same trail and head, whose log is on the disk, and no text is wanted
-  pub stands_stopped : (text : List ℕ) (batches : List (List (List ℕ))) (zone : List Record) (updates : List Update) (k : ℕ) (old new : StoreWriter D F) (wanted : Option Wanted)
+  pub stands_stopped : (text : List ℕ) (batches : List (List Messages)) (zone : List Record) (updates : List Update) (k : ℕ) (old new : StoreWriter D F) (wanted : Option Wanted)
       → Stands written synced text batches zone updates k old wanted → trail_of new ≡ trail_of old → head_of new ≡ head_of old
       → ((head : Head) (bodies : List (List ℕ)) → IsOnDisk head (log_of old) bodies → IsOnDisk head (log_of new) bodies)
       → Stands written synced text batches zone updates k new None
@@ -80,7 +80,7 @@ module _ {D F : Type 0} (written synced : D → List ℕ) where
   }
 
   -- the same of the same writer, of which nothing but its log may be another one
-  pub stands_still : (text : List ℕ) (batches : List (List (List ℕ))) (zone : List Record) (updates : List Update) (k : ℕ) (old new : StoreWriter D F) (wanted : Option Wanted)
+  pub stands_still : (text : List ℕ) (batches : List (List Messages)) (zone : List Record) (updates : List Update) (k : ℕ) (old new : StoreWriter D F) (wanted : Option Wanted)
       → Stands written synced text batches zone updates k old wanted → trail_of new ≡ trail_of old → head_of new ≡ head_of old → under_way_of new ≡ under_way_of old
       → ((head : Head) (bodies : List (List ℕ)) → IsOnDisk head (log_of old) bodies → IsOnDisk head (log_of new) bodies)
       → Stands written synced text batches zone updates k new wanted
@@ -92,7 +92,7 @@ module _ {D F : Type 0} (written synced : D → List ℕ) where
   }
 
   -- a compaction that is begun: its text is that of the trail's oldest version
-  pub stands_begun : (text : List ℕ) (batches : List (List (List ℕ))) (zone : List Record) (updates : List Update) (k last : ℕ) (old new : StoreWriter D F) (wanted : Option Wanted) (next : NextText)
+  pub stands_begun : (text : List ℕ) (batches : List (List Messages)) (zone : List Record) (updates : List Update) (k last : ℕ) (old new : StoreWriter D F) (wanted : Option Wanted) (next : NextText)
       → Stands written synced text batches zone updates k old wanted → trail_of new ≡ trail_of old → head_of new ≡ head_of old → log_of new ≡ log_of old
       → Begins (trail_of old) last next (under_way_of new) → IfSome (under_way_of new) (IsMarked k batches)
       → Stands written synced text batches zone updates k new (Some (wanted_of next (head_of new)))
@@ -109,7 +109,7 @@ module _ {D F : Type 0} (written synced : D → List ℕ) where
   }
 
   -- the journal of a text that is written is in place
-  pub stands_replaced : (text written_text : List ℕ) (batches : List (List (List ℕ))) (zone : List Record) (updates : List Update) (k : ℕ) (old new : StoreWriter D F) (wanted : Wanted)
+  pub stands_replaced : (text written_text : List ℕ) (batches : List (List Messages)) (zone : List Record) (updates : List Update) (k : ℕ) (old new : StoreWriter D F) (wanted : Wanted)
       (head : Head) (random : List ℕ) (compaction : Compaction)
       → Stands written synced text batches zone updates k old (Some wanted) → IsCreated wanted.next.version.zone wanted.next.number random wanted.origin written_text head
       → under_way_of old ≡ Some compaction → number_of compaction ≡ head.number → Holds written synced head (log_of new) (bodies_of compaction)
@@ -118,7 +118,7 @@ module _ {D F : Type 0} (written synced : D → List ℕ) where
   stands_replaced text written_text batches zone updates k old new wanted head random compaction is_present begun way number holds head_is trail =
       let next : IsNext batches zone updates k compaction wanted = is_present.next compaction wanted way refl (number ∙ begun.numbered) in
       let first : ℕ = next.first in
-      let rest : List (List (List ℕ)) = next.marked.rest in
+      let rest : List (List Messages) = next.marked.rest in
       let here : IsStore written_text head [] (replay zone (take first updates)) [] = subst (λ (z : List Record). IsStore written_text head [] z []) next.version begun.store in
       let parts : k ≡ first + (k - first) = omega (arith, next.older) in
       let end : IsEndOf text (head_of old) batches zone updates (trail_of old) (first + (k - first)) =

@@ -12,6 +12,7 @@ use Rattle.transfer_core.specs.Chain.{zones_of}
 use Rattle.dns_engine.specs.Held.{Held, KEPT, newest, held_with, all_held, IsNewest}
 use Rattle.dns_engine.specs.Versions.{Makes}
 use Rattle.update_batches.specs.Journal.{AreMadeBy}
+use Rattle.journal.specs.Batch.{Messages}
 use Rattle.journal.specs.declared.heads.Head.{Head}
 use Rattle.journal.specs.Recovered.{journal_of, updates_in}
 use Rattle.journal.proofs.RecoveredLemmas.{written_recovered}
@@ -46,7 +47,7 @@ zones_behind (suc k) zone [] few = absurd (omega (arith, few))
 zones_behind (suc k) zone (update ∷ updates) few = zones_behind k (unwrap_or (act zone update) zone) updates (omega (arith, few))
 
 -- versions that are made one from the other have them
-made_zones : (first : Version) (versions : List Version) (messages : List (List ℕ)) (updates : List Update) → AreMadeBy first versions messages → AreRead messages updates
+made_zones : (first : Version) (versions : List Version) (messages : List Messages) (updates : List Update) → AreMadeBy first versions messages → AreRead messages updates
     → zones_of (first ∷ versions) ≡ zones_from first.zone updates
 made_zones first [] [] [] made read = refl
 made_zones first [] [] (update ∷ updates) made read = absurd read
@@ -73,7 +74,7 @@ held_zones held (update ∷ updates) before ends =
     held_zones (held_with held next) updates (before ++ held.last.zone ∷ []) longer ∙ append_assoc before (held.last.zone ∷ []) (zones_from next.zone updates)
 
 -- a replay has the last of them, as many as are kept and one
-replayed_zones : (zone : List Record) (messages : List (List ℕ)) (kept : RecentVersions) (is : IsReplayed zone messages kept)
+replayed_zones : (zone : List Record) (messages : List Messages) (kept : RecentVersions) (is : IsReplayed zone messages kept)
     → zones_of (kept.older.items ++ kept.last ∷ []) ≡ drop (length is.updates - min KEPT (length is.updates)) (zones_from zone is.updates)
 replayed_zones zone messages kept is =
     let held : Held = held_from (begun zone) is.updates in
@@ -104,16 +105,16 @@ one_zone : (read : Result (List Record) FileFault) (zone other : List Record) �
 one_zone read zone other one two = cc
 
 -- a start of a store has the zones of the trail that is its end
-pub trail_started : (text : List ℕ) (head : Head) (batches : List (List (List ℕ))) (zone : List Record) (updates : List Update) (trail : TrailState) (k : ℕ) (start : Recovery)
+pub trail_started : (text : List ℕ) (head : Head) (batches : List (List Messages)) (zone : List Record) (updates : List Update) (trail : TrailState) (k : ℕ) (start : Recovery)
     → IsEndOf text head batches zone updates trail k → length trail.steps ≤ KEPT → IsStarted text (journal_of head batches) start
     → newest (length trail.steps + 1) (zones_of (start.newest.older.items ++ start.newest.last ∷ [])) ≡ zones_of (trail.oldest ∷ versions_in trail.steps)
 trail_started text head batches zone updates trail k start end few is =
     let store : IsStore text head batches zone updates = end.store in
-    let messages : List (List ℕ) = updates_in batches in
+    let messages : List Messages = updates_in batches in
     let found = written_recovered text head start.head batches is.messages start.number start.end is.torn store.is_head store.fit store.short is.recovered in
     let zones : is.zone ≡ zone = one_zone (zone_of_text [] text) is.zone zone is.is_zone store.is_zone in
     let reported : List Update = is.replayed.updates in
-    let others : reported ≡ updates = read_once messages reported updates (subst (λ (ms : List (List ℕ)). AreRead ms reported) found.1 is.replayed.read) store.read in
+    let others : reported ≡ updates = read_once messages reported updates (subst (λ (ms : List Messages). AreRead ms reported) found.1 is.replayed.read) store.read in
     let all : List (List Record) = zones_from zone updates in
     let b : ℕ = length updates - min KEPT (length updates) in
     let kept : zones_of (start.newest.older.items ++ start.newest.last ∷ []) ≡ drop b all =
@@ -121,9 +122,9 @@ trail_started text head batches zone updates trail k start end few is =
     ∙ (ap (λ (us : List Update). drop (length us - min KEPT (length us)) (zones_from is.zone us)) others ∙ ap (λ (z : List Record). drop b (zones_from z updates)) zones) in
     let long : length updates ≡ length messages = read_long messages updates store.read in
     let steps : length trail.steps ≡ length messages - k =
-    sym (length-map trail.steps (λ (s : VersionUpdate). s.octets.items)) ∙ (ap length end.rest ∙ length-drop k messages) in
+    sym (length-map trail.steps (λ (s : VersionUpdate). s.messages)) ∙ (ap length end.rest ∙ length-drop k messages) in
     let read : AreRead (updates_of trail.steps) (drop k updates) =
-    subst (λ (ms : List (List ℕ)). AreRead ms (drop k updates)) (sym end.rest) (read_behind k messages updates store.read) in
+    subst (λ (ms : List Messages). AreRead ms (drop k updates)) (sym end.rest) (read_behind k messages updates store.read) in
     let has : zones_of (trail.oldest ∷ versions_in trail.steps) ≡ drop k all =
     made_zones trail.oldest (versions_in trail.steps) (updates_of trail.steps) (drop k updates) end.made read
     ∙ (ap (λ (z : List Record). zones_from z (drop k updates)) end.oldest ∙ zones_behind k zone updates end.within) in

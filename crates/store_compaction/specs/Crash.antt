@@ -5,6 +5,7 @@ use Rattle.dns_rdata.specs.Record.{Record}
 use Rattle.dns_message.specs.declared.update.Update.{Update}
 use Rattle.update_core.specs.Act.{replay}
 use Rattle.dns_engine.specs.Replayed.{EachChanges}
+use Rattle.journal.specs.Batch.{Messages}
 use Rattle.journal.specs.declared.heads.Head.{Head}
 use Rattle.journal.specs.Head.{IsText}
 use Rattle.journal.specs.Log.{disk_of}
@@ -20,7 +21,7 @@ use Rattle.store_compaction.specs.Kept.{CompactedState}
 
 -- a journal of which these bytes are on disk names this zone text, and a start of both, whatever is after these bytes, finds a zone with these updates first, and after them at most
 -- updates that were written but are not known to be on disk
-pub record IsRecovered (zone : List Record) (updates : List (List ℕ)) (text octets : List ℕ) : Type 0 where
+pub record IsRecovered (zone : List Record) (updates : List Messages) (text octets : List ℕ) : Type 0 where
   pub head : Head
   pub behind : List ℕ
   pub begins : BeginsHead octets head behind
@@ -36,7 +37,7 @@ module _ {F : Type 0} where
   -- from one state of a store to another, what is on disk of its journal after each call since is recovered with these updates first. Where another file is the journal now, that is
   -- so at each moment since it may have the journal's name. Of a file that may have got this name by a rename that could not be synced, after which nothing more is appended, nothing
   -- is said here
-  pub data Leaves (zone : List Record) (old new : CompactedState F) (updates : List (List ℕ)) : Type 0 where
+  pub data Leaves (zone : List Record) (old new : CompactedState F) (updates : List Messages) : Type 0 where
     same_file : (text : List ℕ) (since : List (List ℕ)) → history (disk_of (log_of new.writer)) ≡ since ++ history (disk_of (log_of old.writer))
         → AllByRecursion (IsRecovered zone updates text) since → Leaves zone old new updates
     replaced : (text : List ℕ) → AllByRecursion (IsRecovered zone updates text) (history (disk_of (log_of new.writer))) → Leaves zone old new updates

@@ -1,7 +1,7 @@
 -- The data kept for the next journal while its zone text is written (own).
 use Rattle.std.specs.Prelude.{◌≡◌, ℕ, List, map, length}
 use Rattle.journal.specs.declared.heads.Head.{Head}
-use Rattle.journal.specs.Batch.{batch_of}
+use Rattle.journal.specs.Batch.{Messages, batch_of}
 use Rattle.journal.specs.Frame.{Fit}
 use Rattle.journal.specs.Head.{salt_of}
 use Rattle.journal.specs.Log.{octets_of}
@@ -18,8 +18,8 @@ abbrev pub number_of : Compaction → ℕ
 number_of compaction = compaction.number
 
 -- a compaction has the batches with the updates after the first k of a store's
-pub record IsMarked (k : ℕ) (batches : List (List (List ℕ))) (compaction : Compaction) : Type 0 where
-  pub rest : List (List (List ℕ))
+pub record IsMarked (k : ℕ) (batches : List (List Messages)) (compaction : Compaction) : Type 0 where
+  pub rest : List (List Messages)
   pub behind : AreBehind k batches rest
   pub bodies : bodies_of compaction ≡ map batch_of rest
 

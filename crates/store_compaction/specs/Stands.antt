@@ -3,7 +3,7 @@ use Rattle.std.specs.Prelude.{◌≡◌, ◌⊎◌, ◌≤◌, ℕ, List, Option
 use Rattle.dns_rdata.specs.Record.{Record}
 use Rattle.dns_message.specs.declared.update.Update.{Update}
 use Rattle.update_core.specs.Act.{replay}
-use Rattle.journal.specs.Batch.{batch_of}
+use Rattle.journal.specs.Batch.{Messages, batch_of}
 use Rattle.journal.specs.Log.{Holds, IsStuck}
 use Rattle.store_compaction.specs.declared.marked.Compaction.{Compaction}
 use Rattle.store_compaction.specs.declared.writer.StoreWriter.{StoreWriter}
@@ -13,7 +13,7 @@ use Rattle.store_compaction.specs.Writer.{log_of, trail_of, head_of, under_way_o
 use Rattle.store_compaction.specs.TextWriter.{Wanted}
 
 -- the requested text is that of the version after the first updates of a store, at most the first k, and the compaction has the batches after it
-pub record IsNext (batches : List (List (List ℕ))) (zone : List Record) (updates : List Update) (k : ℕ) (compaction : Compaction) (wanted : Wanted) : Type 0 where
+pub record IsNext (batches : List (List Messages)) (zone : List Record) (updates : List Update) (k : ℕ) (compaction : Compaction) (wanted : Wanted) : Type 0 where
   pub first : ℕ
   pub older : first ≤ k
   pub version : wanted.next.version.zone ≡ replay zone (take first updates)
@@ -23,7 +23,7 @@ module _ {D F : Type 0} (written synced : D → List ℕ) where
   -- a store is consistent: it has this zone text and its journal has these batches, which are on disk, and nothing after them was reported as stored. Or the log accepts no more
   -- batches, and these are on disk. The writer's recent updates are the end of that store. The data kept by the current compaction belongs to the requested text, if that has its
   -- number
-  pub record Stands (text : List ℕ) (batches : List (List (List ℕ))) (zone : List Record) (updates : List Update) (k : ℕ) (writer : StoreWriter D F) (wanted : Option Wanted) : Type 0 where
+  pub record Stands (text : List ℕ) (batches : List (List Messages)) (zone : List Record) (updates : List Update) (k : ℕ) (writer : StoreWriter D F) (wanted : Option Wanted) : Type 0 where
     pub end : IsEndOf text (head_of writer) batches zone updates (trail_of writer) k
     pub log : Holds written synced (head_of writer) (log_of writer) (map batch_of batches) ⊎ IsStuck synced (head_of writer) (log_of writer) (map batch_of batches)
     pub origin : (other : Wanted) → wanted ≡ Some other → other.origin ≡ (head_of writer).origin
@@ -35,6 +35,6 @@ module _ {D F : Type 0} (written synced : D → List ℕ) where
     pub n : ℕ
     pub within : n ≤ length updates
     pub text : List ℕ
-    pub batches : List (List (List ℕ))
+    pub batches : List (List Messages)
     pub k : ℕ
     pub is_present : Stands text batches (replay zone (take n updates)) (drop n updates) k writer wanted

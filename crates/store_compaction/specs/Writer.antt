@@ -1,8 +1,8 @@
 -- The writer of a store (own).
-use Rattle.std.specs.Prelude.{◌≡◌, ◌≢◌, ℕ, ◌+◌, List, [], ◌∷◌, Option, None, Some, ⊤}
+use Rattle.std.specs.Prelude.{◌≡◌, ◌≢◌, ℕ, ◌+◌, List, [], ◌∷◌, map, Option, None, Some, ⊤}
 use Rattle.zone_tree.specs.Version.{Version}
 use Rattle.journal.specs.declared.heads.Head.{Head}
-use Rattle.journal.specs.Batch.{batch_of}
+use Rattle.journal.specs.Batch.{Messages, batch_of}
 use Rattle.journal.specs.declared.log.Log.{Log}
 use Rattle.update_batches.specs.Batch.{logged}
 use Rattle.store_compaction.specs.declared.marked.Compaction.{Compaction}
@@ -32,20 +32,20 @@ module _ {D F : Type 0} where
   last_of writer = writer.texts.last
 
 -- steps have these versions and these updates, one each
-pub record AreSteps (steps : List VersionUpdate) (versions : List Version) (updates : List (List ℕ)) : Type 0 where
+pub record AreSteps (steps : List VersionUpdate) (versions : List Version) (updates : List Messages) : Type 0 where
   pub versions_are : versions_in steps ≡ versions
   pub updates_are : updates_of steps ≡ updates
 
 -- the compaction that was under way has the batch of these updates after those that it had, or is given up
-abbrev pub Adds : Option Compaction → Option Compaction → List (List ℕ) → Type 0
+abbrev pub Adds : Option Compaction → Option Compaction → List Messages → Type 0
 Adds before None updates = ⊤
 Adds None (Some now) updates = ⊥
 Adds (Some before) (Some now) updates = (number_of now ≡ number_of before) × (bodies_of now ≡ logged (bodies_of before) updates)
 
--- a compaction is under way for the text with a number, and has the batch of the recent updates
+-- a compaction is under way for the text with a number, and has the recent updates, each as a batch of its own
 abbrev pub Keeps : TrailState → ℕ → Option Compaction → Type 0
 Keeps trail number None = ⊥
-Keeps trail number (Some compaction) = (number_of compaction ≡ number) × (bodies_of compaction ≡ batch_of (updates_of trail.steps) ∷ [])
+Keeps trail number (Some compaction) = (number_of compaction ≡ number) × (bodies_of compaction ≡ map (λ messages. batch_of (messages ∷ [])) (updates_of trail.steps))
 
 -- a compaction is started: its text is that of the oldest recent version, with the number after the greatest given so far
 pub record Begins (trail : TrailState) (last : ℕ) (next : NextText) (now : Option Compaction) : Type 0 where

@@ -6,6 +6,7 @@ ghost use Rattle.dns_message.specs.declared.update.Update.{Update};
 ghost use Rattle.zone_tree.specs.Version.{Version};
 ghost use Rattle.update_core.specs.Act.{replay};
 ghost use Rattle.dns_engine.specs.Replayed.{EachChanges};
+ghost use Rattle.journal.specs.Batch.{Messages};
 ghost use Rattle.journal.specs.Recovered.{journal_of};
 ghost use Rattle.journal.specs.Log.{disk_of};
 ghost use Rattle.store_files.specs.File.{written, synced};
@@ -21,11 +22,11 @@ ghost use Rattle.store_compaction.specs.Has.{HasUpdates};
 /// Whatever bytes a crash leaves after the synced part of a consistent store's journal, a restart finds the last version of the writer's recent updates, and after it at most
 /// updates that were written but are not known to be on disk, which got SERVFAIL. A start of a store that replaces it finds the same last version, with the same number.
 pub fn tended_stores_have_the_same_start()
-    ensures crash { (text : List ℕ) (batches : List (List (List ℕ))) (zone : List Record) (updates : List Update) (k : ℕ) (state : CompactedState IoError) (left : List ℕ) (start : Recovery)
+    ensures crash { (text : List ℕ) (batches : List (List Messages)) (zone : List Record) (updates : List Update) (k : ℕ) (state : CompactedState IoError) (left : List ℕ) (start : Recovery)
         → IsAt text batches zone updates k state → IsStarted text (synced (disk_of (log_of state.writer)) ++ left) start
         → ((last_in (trail_of state.writer)).zone ≡ replay zone updates) × (start.head ≡ head_of state.writer)
         × ((more : List Update) × EachChanges zone (updates ++ more) × (start.newest.last.zone ≡ replay zone (updates ++ more)) × (start.newest.last.number ≡ length (updates ++ more))) }
-    ensures tended { (text : List ℕ) (batches : List (List (List ℕ))) (zone : List Record) (updates : List Update) (k : ℕ) (before after : CompactedState IoError) (start later : Recovery)
+    ensures tended { (text : List ℕ) (batches : List (List Messages)) (zone : List Record) (updates : List Update) (k : ℕ) (before after : CompactedState IoError) (start later : Recovery)
         → IsAt text batches zone updates k before → (from : StandsFrom written synced zone updates after.writer after.wanted)
         → IsStarted text (journal_of (head_of before.writer) batches) start → IsStarted from.text (journal_of (head_of after.writer) from.batches) later
         → (start.newest.last.zone ≡ later.newest.last.zone) × (start.newest.last.number ≡ from.n + later.newest.last.number) }
@@ -34,7 +35,7 @@ pub fn tended_stores_have_the_same_start()
 /// The start after a crash, of a store that has updates applied to a zone. Whatever bytes the crash leaves after the synced part of the journal, the zone found is that zone with
 /// these updates replayed in order, and after them at most updates that were written but are not known to be on disk: they got SERVFAIL or no response yet.
 pub fn what_is_accepted_is_recovered()
-    ensures { (zone : List Record) (store : CompactedState IoError) (published : List Version) (updates : List (List ℕ)) (left : List ℕ) (start : Recovery)
+    ensures { (zone : List Record) (store : CompactedState IoError) (published : List Version) (updates : List Messages) (left : List ℕ) (start : Recovery)
         → (has : HasUpdates zone store published updates) → IsStarted has.text (synced (disk_of (log_of store.writer)) ++ left) start
         → (all : List Update) × (more : List Update) × AreRead updates all × EachChanges zone (all ++ more) × (start.newest.last.zone ≡ replay zone (all ++ more)) }
 {}

@@ -1,6 +1,6 @@
 //! The data kept for the next journal while its zone text is written (own).
-ghost use Rattle.std.specs.Prelude.{◌≡◌, ◌<◌, ◌≤◌, ℕ, List, [], ◌∷◌, ◌++◌, length, All, IfOk, OnOk, OnErr, string_bytes};
-ghost use Rattle.journal.specs.Batch.{batch_of, IsShort};
+ghost use Rattle.std.specs.Prelude.{◌≡◌, ◌<◌, ◌≤◌, ℕ, List, [], ◌∷◌, ◌++◌, length, map, All, IfOk, OnOk, OnErr, string_bytes};
+ghost use Rattle.journal.specs.Batch.{Messages, batch_of, IsRequest};
 ghost use Rattle.journal.specs.Frame.{body_limit};
 ghost use Rattle.journal.specs.Recovered.{updates_in};
 ghost use Rattle.store_recovery.specs.Created.{IsCreated};
@@ -28,15 +28,12 @@ impl Drop for Compaction {
 }
 
 impl Compaction {
-    /// A compaction for the text with a number, with one batch. Allocates memory.
-    pub(crate) fn of(alloc: Global, number: u64, octets: Vec<u8>) -> Result<Compaction, AllocError>
-        requires { length octets.items < body_limit }
-        ensures number { IfOk result (λ compaction. number_of compaction ≡ number) }
-        ensures bodies { IfOk result (λ compaction. bodies_of compaction ≡ octets.items ∷ []) }
+    /// A compaction for the text with a number, with these batches.
+    pub(crate) fn of(number: u64, bodies: Vec<Body>) -> Compaction
+        ensures number { number_of result ≡ number }
+        ensures bodies { bodies_of result ≡ map (λ body. body.octets.items) bodies.items }
     {
-        let mut bodies = Vec::new(alloc);
-        bodies.push(Body { octets })?;
-        Ok(Compaction { number, bodies })
+        Compaction { number, bodies }
     }
 
     /// Adds a batch that is appended to the store's journal. Allocates memory. If there is none, it keeps what it had and is of no use, so another compaction is started.
@@ -44,8 +41,8 @@ impl Compaction {
         requires { length body.now < body_limit }
         ensures followed { OnOk result (bodies_of self.new ≡ bodies_of self.old ++ body.now ∷ []) }
         ensures same { OnErr result (bodies_of self.new ≡ bodies_of self.old) }
-        ensures marked { OnOk result ((k : ℕ) (batches : List (List (List ℕ))) (batch : List (List ℕ)) → IsMarked k batches self.old
-            → k ≤ length (updates_in batches) → All IsShort batch → body.now ≡ batch_of batch → IsMarked k (batches ++ batch ∷ []) self.new) }
+        ensures marked { OnOk result ((k : ℕ) (batches : List (List Messages)) (batch : List Messages) → IsMarked k batches self.old
+            → k ≤ length (updates_in batches) → All IsRequest batch → body.now ≡ batch_of batch → IsMarked k (batches ++ batch ∷ []) self.new) }
         ensures number { number_of self.new ≡ number_of self.old }
     {
         let octets = body.to_vec(alloc)?;

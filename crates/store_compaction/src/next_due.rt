@@ -3,6 +3,7 @@ ghost use Rattle.std.specs.Prelude.{◌≡◌, ◌≢◌, ℕ, true, List, None}
 ghost use Rattle.dns_rdata.specs.Record.{Record};
 ghost use Rattle.dns_message.specs.declared.update.Update.{Update};
 ghost use Rattle.store_files.specs.File.{written, synced};
+ghost use Rattle.journal.specs.Batch.{Messages};
 ghost use Rattle.journal.specs.Log.{is_stuck};
 ghost use Rattle.store_compaction.specs.Writer.{log_of, trail_of, head_of, under_way_of};
 ghost use Rattle.store_compaction.specs.Stands.{Stands};
@@ -36,7 +37,7 @@ pub(crate) fn begin_next<W: Wait, T: TextWriter, N: CompactionLog>(
     ensures trail { trail_of writer.new ≡ trail_of writer.old }
     ensures head { head_of writer.new ≡ head_of writer.old }
     ensures log { log_of writer.new ≡ log_of writer.old }
-    ensures is_present { (text : List ℕ) (batches : List (List (List ℕ))) (zone : List Record) (updates : List Update) (k : ℕ)
+    ensures is_present { (text : List ℕ) (batches : List (List Messages)) (zone : List Record) (updates : List Update) (k : ℕ)
         → Stands written synced text batches zone updates k writer.old (T.wanted texts.old)
         → Stands written synced text batches zone updates k writer.new (T.wanted texts.new) }
 {

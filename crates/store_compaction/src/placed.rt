@@ -1,4 +1,5 @@
 //! Puts one journal in the place of another (own).
+ghost use Rattle.journal.specs.Batch.{Messages};
 ghost use Rattle.std.specs.Prelude.{◌≡◌, ℕ, List};
 ghost use Rattle.dns_rdata.specs.Record.{Record};
 ghost use Rattle.dns_message.specs.declared.update.Update.{Update};
@@ -46,7 +47,7 @@ pub(crate) fn put_in_place<
 ) -> Placed
     ensures placed { IsPlaced writer.old writer.new }
     ensures trail { trail_of writer.new ≡ trail_of writer.old }
-    ensures is_present { (text : List ℕ) (batches : List (List (List ℕ))) (zone : List Record) (updates : List Update) (k : ℕ)
+    ensures is_present { (text : List ℕ) (batches : List (List Messages)) (zone : List Record) (updates : List Update) (k : ℕ)
         → Stands written synced text batches zone updates k writer.old (T.wanted texts.old)
         → StandsFrom written synced zone updates writer.new (T.wanted texts.new) × ((head_of writer.new).origin ≡ (head_of writer.old).origin) }
 {
@@ -72,7 +73,7 @@ fn replace<W: Wait, R: Files<File = File> + Alloc + Clone + Drop, N: CompactionL
 ) -> Placed
     ensures placed { IsPlaced writer.old writer.new }
     ensures trail { trail_of writer.new ≡ trail_of writer.old }
-    ensures is_present { (wanted : Text) → IsWritten wanted head → (text : List ℕ) (batches : List (List (List ℕ))) (zone : List Record) (updates : List Update) (k : ℕ)
+    ensures is_present { (wanted : Text) → IsWritten wanted head → (text : List ℕ) (batches : List (List Messages)) (zone : List Record) (updates : List Update) (k : ℕ)
         → Stands written synced text batches zone updates k writer.old (Some wanted)
         → StandsFrom written synced zone updates writer.new None × ((head_of writer.new).origin ≡ (head_of writer.old).origin) }
 {

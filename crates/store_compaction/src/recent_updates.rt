@@ -1,18 +1,17 @@
 //! The newest versions, with the updates that made them (own).
-ghost use Rattle.std.specs.Prelude.{◌≡◌, ◌<◌, ℕ, List, [], ◌∷◌, length, min, IfOk};
+ghost use Rattle.std.specs.Prelude.{◌≡◌, ℕ, List, [], ◌∷◌, map, min, IfOk};
 ghost use Rattle.dns_rdata.specs.Record.{Record};
 ghost use Rattle.dns_message.specs.declared.update.Update.{Update};
 ghost use Rattle.dns_engine.specs.Held.{KEPT};
 ghost use Rattle.journal.specs.declared.heads.Head.{Head};
-ghost use Rattle.journal.specs.Batch.{batch_of};
-ghost use Rattle.journal.specs.Frame.{body_limit};
+ghost use Rattle.journal.specs.Batch.{Messages, batch_of};
 ghost use Rattle.store_compaction.specs.RecentUpdates.{pushed, followed};
 ghost use Rattle.update_batches.specs.Batch.{updates_of};
-ghost use Rattle.store_compaction.specs.Marked.{bodies_of, number_of, IsMarked};
+ghost use Rattle.store_compaction.specs.Marked.{bodies_of as bodies_in, number_of, IsMarked};
 ghost use Rattle.store_compaction.specs.End.{IsEndOf};
 
 use crate::marked::Compaction;
-use crate::steps::batch_body;
+use crate::steps::bodies_of;
 use dns_engine::{KEPT, SharedVersion};
 use std::alloc::{AllocError, Global};
 use std::marker::Model;
@@ -88,8 +87,8 @@ impl RecentUpdates {
         }
     }
 
-    /// Starts a compaction. Returns the oldest version, which is written as the next zone text with this number, and what is kept for the journal of that text, which at first is
-    /// the batch of the updates after that version. Allocates memory. If there is none, the recent updates are unchanged and a compaction can be started later.
+    /// Starts a compaction. Returns the oldest version, which is written as the next zone text with this number, and what is kept for the journal of that text, which at first are
+    /// the updates after that version, each as a batch of its own. Allocates memory. If there is none, the recent updates are unchanged and a compaction can be started later.
     pub fn mark<R: Wait>(
         &self,
         rt: &R,
@@ -98,19 +97,11 @@ impl RecentUpdates {
     ) -> Result<(SharedVersion, Compaction), AllocError>
         ensures oldest { IfOk result (λ r. r.0 ≡ self.now.oldest) }
         ensures number { IfOk result (λ r. number_of r.1 ≡ number) }
-        ensures bodies { IfOk result (λ r. bodies_of r.1 ≡ batch_of (updates_of self.now.steps) ∷ []) }
-        ensures marked { IfOk result (λ r. (text : List ℕ) (head : Head) (batches : List (List (List ℕ))) (zone : List Record) (updates : List Update) (k : ℕ)
+        ensures bodies { IfOk result (λ r. bodies_in r.1 ≡ map (λ messages. batch_of (messages ∷ [])) (updates_of self.now.steps)) }
+        ensures marked { IfOk result (λ r. (text : List ℕ) (head : Head) (batches : List (List Messages)) (zone : List Record) (updates : List Update) (k : ℕ)
             → IsEndOf text head batches zone updates self.now k → IsMarked k batches r.1) }
     {
-        let compaction = Compaction::of(alloc, number, self.batch(alloc)?)?;
+        let compaction = Compaction::of(number, bodies_of(alloc, &self.steps)?);
         Ok((self.oldest.share(rt), compaction))
-    }
-
-    /// The batch of the kept updates.
-    fn batch(&self, alloc: Global) -> Result<Vec<u8>, AllocError>
-        ensures batch { IfOk result (λ batch. batch.items ≡ batch_of (updates_of self.now.steps)) }
-        ensures short { IfOk result (λ batch. length batch.items < body_limit) }
-    {
-        batch_body(alloc, &self.steps)
     }
 }

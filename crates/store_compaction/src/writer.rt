@@ -33,7 +33,7 @@ impl<D: Disk> StoreWriter<D> {
     ghost use Rattle.dns_rdata.specs.Record.{Record};
     ghost use Rattle.dns_message.specs.declared.update.Update.{Update};
     ghost use Rattle.journal.specs.declared.heads.Head.{Head as HeadState};
-    ghost use Rattle.journal.specs.Batch.{batch_of, IsShort};
+    ghost use Rattle.journal.specs.Batch.{Messages, batch_of, IsRequest};
     ghost use Rattle.journal.specs.Frame.{body_limit};
     ghost use Rattle.journal.specs.Recovered.{updates_in};
     ghost use Rattle.journal.specs.Disk.{LeavesOnly};
@@ -72,7 +72,7 @@ impl<D: Disk> StoreWriter<D> {
         alloc: Global,
         updates: &[VersionUpdate],
     ) -> Result<(), LogFault<D::Fault>>
-        requires few { length updates.now ≤ 64 }
+        requires short { length (batch_of (updates_of updates.now)) < body_limit }
         ensures on_disk { OnOk result ((head : HeadState) (bodies : List (List ℕ)) → Holds D.written D.synced head (log_of self.old) bodies
             → Holds D.written D.synced head (log_of self.new) (logged bodies (updates_of updates.now))) }
         ensures on_disk_still { OnErr result ((head : HeadState) (bodies : List (List ℕ)) → Holds D.written D.synced head (log_of self.old) bodies
@@ -84,7 +84,7 @@ impl<D: Disk> StoreWriter<D> {
         ensures trail_still { OnErr result (trail_of self.new ≡ trail_of self.old) }
         ensures compaction { OnOk result (Adds (under_way_of self.old) (under_way_of self.new) (updates_of updates.now)) }
         ensures compaction_still { OnErr result (under_way_of self.new ≡ under_way_of self.old) }
-        ensures marked { OnOk result (0 < length updates.now → (k : ℕ) (batches : List (List (List ℕ))) (before now : Kept)
+        ensures marked { OnOk result (0 < length updates.now → (k : ℕ) (batches : List (List Messages)) (before now : Kept)
             → under_way_of self.old ≡ Some before → under_way_of self.new ≡ Some now → IsMarked k batches before → k ≤ length (updates_in batches)
             → IsMarked k (batches ++ updates_of updates.now ∷ []) now) }
         ensures head { head_of self.new ≡ head_of self.old }
@@ -112,8 +112,8 @@ impl<D: Disk> StoreWriter<D> {
         ensures compaction { MatchOption (under_way_of self.new) ⊤
             (λ now. IfSome (under_way_of self.old) (λ before. (number_of now ≡ number_of before) × (bodies_of now ≡ bodies_of before ++ body.now ∷ []))) }
         ensures some { under_way_of self.old ≡ None → under_way_of self.new ≡ None }
-        ensures marked { (k : ℕ) (batches : List (List (List ℕ))) (batch : List (List ℕ)) (before now : Kept) → under_way_of self.old ≡ Some before → under_way_of self.new ≡ Some now
-            → IsMarked k batches before → k ≤ length (updates_in batches) → All IsShort batch → body.now ≡ batch_of batch → IsMarked k (batches ++ batch ∷ []) now }
+        ensures marked { (k : ℕ) (batches : List (List Messages)) (batch : List Messages) (before now : Kept) → under_way_of self.old ≡ Some before → under_way_of self.new ≡ Some now
+            → IsMarked k batches before → k ≤ length (updates_in batches) → All IsRequest batch → body.now ≡ batch_of batch → IsMarked k (batches ++ batch ∷ []) now }
         ensures log { log_of self.new ≡ log_of self.old }
         ensures trail { trail_of self.new ≡ trail_of self.old }
         ensures head { head_of self.new ≡ head_of self.old }
@@ -137,7 +137,7 @@ impl<D: Disk> StoreWriter<D> {
     ) -> Result<Option<NextText>, AllocError>
         ensures begun { IfOk result (λ found. MatchOption found (2 ^ 64 ≤ last_of self.old + 1)
             (λ next. Begins (trail_of self.old) (last_of self.old) next (under_way_of self.new))) }
-        ensures marked { IfOk result (λ found. IfSome found (λ _. (text : List ℕ) (head : HeadState) (batches : List (List (List ℕ))) (zone : List Record) (updates : List Update) (k : ℕ)
+        ensures marked { IfOk result (λ found. IfSome found (λ _. (text : List ℕ) (head : HeadState) (batches : List (List Messages)) (zone : List Record) (updates : List Update) (k : ℕ)
             → IsEndOf text head batches zone updates (trail_of self.old) k → IfSome (under_way_of self.new) (IsMarked k batches))) }
         ensures last { IfOk result (λ found. IfSome found (λ next. (last_of self.new ≡ next.number) × ((head_of self.old).number < next.number))) }
         ensures none { IfOk result (λ found. MatchOption found (self.new ≡ self.old) (λ _. ⊤)) }

@@ -3,13 +3,10 @@ ghost use Rattle.std.specs.Prelude.{◌≢◌, ◌↔◌, IsTrue, ℕ, [], Match
 ghost use Rattle.store_files.specs.Names.{IsTextName, IsLaid, IsLeftOver};
 
 use crate::files::{read_there, sync_folder, write_synced};
-use crate::names::{JOURNAL, NEW_JOURNAL, NEW_TORN, path_of, text_path};
+use crate::names::{NEW_JOURNAL, NEW_TORN, path_of};
 use std::alloc::Global;
 use std::fs::{self, File, Files};
 use std::io::{self, ErrorKind};
-
-/// The greatest number of pairs that are kept.
-const MOST: u64 = 10_000;
 
 /// Keeps the octets after the last whole batch of a journal, before they are cut off, in a file of their own, and gives its path, `torn-N`, of the first number
 /// that is free. A file of such a name that has these octets keeps them already, and one without octets is replaced. They are on the disk before the file has
@@ -92,54 +89,6 @@ fn write_renamed<R: Files<File = File>>(
 ) -> io::Result<()> {
     write_synced(File::create(rt, laid)?, octets)?;
     fs::rename(rt, laid, path)
-}
-
-/// A zone text and a journal that are kept in a directory of their own. Only [`keep_pair`] makes a value of this type.
-#[derive(Drop)]
-pub struct KeptPair {
-    path: String,
-}
-
-impl KeptPair {
-    /// The path of the directory.
-    pub fn into_path(self) -> String {
-        self.path
-    }
-}
-
-/// Keeps a zone text of a number and the journal that names it, before another pair becomes the store's, in a directory of their own, which is itself a store: at Ok all of
-/// it is on the disk. It allocates memory.
-pub fn keep_pair<R: Files<File = File>>(
-    rt: &R,
-    alloc: Global,
-    dir: &str,
-    number: u64,
-    text: &[u8],
-    journal: &[u8],
-) -> io::Result<KeptPair> {
-    for place in 1..=MOST {
-        let path = format!(in alloc; "{dir}/old-{place}")?;
-        match fs::create_dir(rt, path.as_str()) {
-            Ok(()) => {
-                write_kept(rt, &text_path(alloc, &path, number)?, text)?;
-                write_kept(rt, &path_of(alloc, &path, JOURNAL)?, journal)?;
-                sync_folder(rt, &path)?;
-                sync_folder(rt, dir)?;
-                return Ok(KeptPair { path });
-            }
-            Err(error) if error.kind() == ErrorKind::AlreadyExists => {}
-            Err(error) => return Err(error),
-        }
-    }
-    Err(io::Error::new(
-        ErrorKind::AlreadyExists,
-        "the folder has too many old pairs",
-    ))
-}
-
-/// Writes the octets of a file that doesn't exist yet.
-fn write_kept<R: Files<File = File>>(rt: &R, path: &str, octets: &[u8]) -> io::Result<()> {
-    write_synced(File::create_new(rt, path)?, octets)
 }
 
 /// Removes what a crash has left of a pair that isn't the store's, and the zone texts of other numbers than the store's own and the one before it: a backup

@@ -19,24 +19,6 @@ pub enum PairFault {
     Unknown(io::Error),
 }
 
-/// Writes a zone text of a number that the store's journal doesn't name, and a journal that names it, which becomes the store's. An error
-/// says which journal the store has. It allocates memory.
-pub fn write_pair<R: Files<File = File>>(
-    rt: &R,
-    alloc: Global,
-    dir: &str,
-    number: u64,
-    text: &[u8],
-    journal: &[u8],
-) -> Result<FileDisk, PairFault>
-    ensures { IfOk result (λ disk. (written disk ≡ journal.now) × (synced disk ≡ journal.now)) }
-{
-    if let Err(fault) = write_text(rt, alloc, dir, number, text) {
-        return Err(PairFault::Before(fault));
-    }
-    replace_journal(rt, alloc, dir, journal)
-}
-
 /// Creates the first store of a directory in which [`open_store`](crate::open_store) finds none: a zone text of number 0, and a journal that names it, which becomes the
 /// store's. The journal is on the disk as `journal.new` before the text is created, and is renamed last: so a crash leaves no text without either, and the next start
 /// can distinguish that from a store whose journal is lost. At an error no store was created, or it is unknown whether it is there after a crash. It allocates memory.
@@ -77,7 +59,7 @@ fn lay_first<R: Files<File = File>>(
     remove_first(rt, alloc, dir)?;
     let disk = lay_journal(rt, paths, journal)?;
     sync_folder(rt, dir)?;
-    write_text(rt, alloc, dir, FIRST_TEXT, text)?;
+    NewText::create(rt, alloc, dir, FIRST_TEXT)?.write(text)?;
     Ok(disk)
 }
 
@@ -88,17 +70,6 @@ fn remove_first<R: Files>(rt: &R, alloc: Global, dir: &str) -> io::Result<()> {
         // Also where there was none: one may have been removed before, while its name is still on the disk.
         _ => sync_folder(rt, dir),
     }
-}
-
-/// Writes a zone text of a number that the store's journal doesn't name: at Ok it and its name are on the disk. It allocates memory.
-fn write_text<R: Files<File = File>>(
-    rt: &R,
-    alloc: Global,
-    dir: &str,
-    number: u64,
-    text: &[u8],
-) -> io::Result<()> {
-    NewText::create(rt, alloc, dir, number)?.write(text)
 }
 
 /// Removes a zone text of a number that the store's journal, which has this head, doesn't name. It allocates memory.

@@ -7,7 +7,7 @@ use Rattle.master_file.specs.declared.fault.FileFault.{FileFault}
 use Rattle.master_file.specs.ZoneText.{zone_of_text}
 use Rattle.journal.specs.declared.heads.Head.{Head}
 use Rattle.journal.specs.declared.start.Refused.TheVariants.{BadHead, Damaged}
-use Rattle.journal.specs.Batch.{batch_of}
+use Rattle.journal.specs.Batch.{Messages, batch_of}
 use Rattle.journal.specs.Frame.{frames_of, IsRead}
 use Rattle.journal.specs.Head.{head_of, salt_of}
 use Rattle.journal.specs.Recovered.{journal_of, updates_in, IsOpened, IsDamaged}
@@ -59,10 +59,10 @@ one_zone_of : (text : Result (List Record) FileFault) (zone other : List Record)
 one_zone_of text zone other one two = cc
 
 -- messages are replayed on a zone in one way
-replayed_once : (zone other : List Record) (messages reported : List (List ℕ)) (one two : RecentVersions) → zone ≡ other → messages ≡ reported → IsReplayed zone messages one → IsReplayed other reported two
+replayed_once : (zone other : List Record) (messages reported : List Messages) (one two : RecentVersions) → zone ≡ other → messages ≡ reported → IsReplayed zone messages one → IsReplayed other reported two
     → (one.last ≡ two.last) × (one.older.items ≡ two.older.items)
 replayed_once zone other messages reported one two same_zone same is also =
-    let updates : is.updates ≡ also.updates = updates_once messages is.updates also.updates is.read (subst (λ (ms : List (List ℕ)). AreRead ms also.updates) (sym same) also.read) in
+    let updates : is.updates ≡ also.updates = updates_once messages is.updates also.updates is.read (subst (λ (ms : List Messages). AreRead ms also.updates) (sym same) also.read) in
     let held : held_from (begun zone) is.updates ≡ held_from (begun other) also.updates =
     ap (λ (us : List Update). held_from (begun zone) us) updates ∙ ap (λ (z : List Record). held_from (begun z) also.updates) same_zone in
     (is.last ∙ (ap (λ (h : Held). h.last) held ∙ sym also.last), is.older ∙ (ap (λ (h : Held). h.older) held ∙ sym also.older))
@@ -116,7 +116,7 @@ never_damaged text octets at (inr fault) =
     omega (arith, within, ap length once.2)
 
 -- all updates of a store are in front, whatever octets stand behind its journal
-pub before_taken : (text left : List ℕ) (head : Head) (batches : List (List (List ℕ))) (zone : List Record) (updates : List Update) (start : Recovery)
+pub before_taken : (text left : List ℕ) (head : Head) (batches : List (List Messages)) (zone : List Record) (updates : List Update) (start : Recovery)
     → IsStore text head batches zone updates → IsStartedBefore text (journal_of head batches ++ left) start
     → (more : List Update) × EachChanges zone (updates ++ more) × (start.newest.last.zone ≡ replay zone (updates ++ more))
     × (start.newest.last.number ≡ length (updates ++ more))

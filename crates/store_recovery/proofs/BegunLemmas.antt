@@ -15,7 +15,7 @@ use Rattle.master_file.proofs.ZoneLawLemmas.{lines_are, lines_spelt, each_first}
 use Rattle.master_file.proofs.ZoneBackLemmas.{records_are}
 use Rattle.journal.specs.declared.heads.Head.{Head}
 use Rattle.journal.specs.declared.heads.TextSum.{TextSum}
-use Rattle.journal.specs.Batch.{IsShort}
+use Rattle.journal.specs.Batch.{IsRequest}
 use Rattle.journal.specs.Head.{IsHead, IsText}
 use Rattle.store_recovery.specs.Created.{IsCreated}
 
@@ -42,7 +42,7 @@ begun_from zone number random origin text head is written is_head numbered salte
     same_text = same;
     is_zone = ap (λ (o : List ℕ). zone_of_text [] o) written ∙ written_back zone [] is;
     serial = sym serial;
-    short = All-nil (All IsShort);
+    short = All-nil (All IsRequest);
     fit = tt;
     read = tt;
     taken = tt;

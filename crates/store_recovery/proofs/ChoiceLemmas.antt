@@ -14,7 +14,7 @@ use Rattle.journal.specs.Head.{IsText}
 use Rattle.store_recovery.specs.declared.choices.Take.{Take}
 use Rattle.store_recovery.specs.declared.choices.Take.TheVariants.{Store as TheStore, Zone as TheZone}
 use Rattle.store_recovery.specs.declared.choices.Choice.{Choice}
-use Rattle.store_recovery.specs.declared.choices.Choice.TheVariants.{Same, Store, Zone, StoreThoughOther, RefuseNewer, RefuseNotNewer, RefuseOtherApex}
+use Rattle.store_recovery.specs.declared.choices.Choice.TheVariants.{Same, Store, Zone, StoreThoughOther, RefuseNewer, RefuseOtherApex}
 use Rattle.store_recovery.specs.Choice.{IsOther, HasNoOtherApex, HasOtherApex, HasSerial, IsUntaken, IsChoice, IsChoiceFault}
 use Rattle.store_recovery.specs.Choosing.{of_one_apex, of_zones}
 
@@ -51,12 +51,6 @@ module _ (begun : TextSum) (last : List Record) (origin : Name) (text : List ℕ
   newer_or_not serial other one two =
       not_so (sym two.3 ∙ (ap (λ (n : ℕ). serial_less (zone_serial last) n) (one_number other serial two.2 one.2) ∙ one.3))
 
-  -- so is the serial of a zone that is taken
-  taken_or_not : (zone : List Record) (other : ℕ) → IsChoice begun last origin text taken (Zone zone) → HasSerial last origin text other
-      → serial_less (zone_serial last) other ≡ false → ⊥
-  taken_or_not zone other is has less =
-      not_so (sym less ∙ (ap (λ (n : ℕ). serial_less (zone_serial last) n) (one_number other (zone_serial zone) has (zone, is.2, is.3, refl)) ∙ is.4))
-
   -- a zone has the store's apex or another one
   of_one : (zone : List Record) → zone_of_text origin text ≡ Ok zone → is_same (apex_of zone) (apex_of last) ≡ true → HasNoOtherApex last origin text
   of_one zone is same other too =
@@ -78,49 +72,36 @@ module _ (begun : TextSum) (last : List Record) (origin : Name) (text : List ℕ
   one_choice_of Same (Zone other) one two = absurd (two.0 one.0)
   one_choice_of Same (StoreThoughOther other) one two = absurd (two.0 one.0)
   one_choice_of Same (RefuseNewer other) one two = absurd (two.0 one.0)
-  one_choice_of Same (RefuseNotNewer other) one two = absurd (two.0 one.0)
   one_choice_of Same (RefuseOtherApex other) one two = absurd (same_or_other other one.1 two)
   one_choice_of Store Same one two = absurd (one.0 two.0)
   one_choice_of Store Store one two = refl
   one_choice_of Store (Zone other) one two = absurd (store_or_zone taken one.1 two.1)
   one_choice_of Store (StoreThoughOther other) one two = absurd (some_or_none taken TheStore one.1 two.1)
   one_choice_of Store (RefuseNewer other) one two = absurd (some_or_none taken TheStore one.1 two.1)
-  one_choice_of Store (RefuseNotNewer other) one two = absurd (store_or_zone taken one.1 two.1)
   one_choice_of Store (RefuseOtherApex other) one two = absurd (same_or_other other one.2 two)
   one_choice_of (Zone zone) Same one two = absurd (one.0 two.0)
   one_choice_of (Zone zone) Store one two = absurd (store_or_zone taken two.1 one.1)
   one_choice_of (Zone zone) (Zone other) one two = ap (λ (z : List Record). Zone z) (one_zone (zone_of_text origin text) zone other one.2 two.2)
   one_choice_of (Zone zone) (StoreThoughOther other) one two = absurd (some_or_none taken TheZone one.1 two.1)
   one_choice_of (Zone zone) (RefuseNewer other) one two = absurd (some_or_none taken TheZone one.1 two.1)
-  one_choice_of (Zone zone) (RefuseNotNewer other) one two = absurd (taken_or_not zone other.0 one two.2 two.3)
   one_choice_of (Zone zone) (RefuseOtherApex other) one two = absurd (same_or_other other (of_one zone one.2 one.3) two)
   one_choice_of (StoreThoughOther serial) Same one two = absurd (one.0 two.0)
   one_choice_of (StoreThoughOther serial) Store one two = absurd (some_or_none taken TheStore two.1 one.1)
   one_choice_of (StoreThoughOther serial) (Zone other) one two = absurd (some_or_none taken TheZone two.1 one.1)
   one_choice_of (StoreThoughOther serial) (StoreThoughOther other) one two = ap (λ (s : Serial). StoreThoughOther s) (one_serial serial other one.2 two.2)
   one_choice_of (StoreThoughOther serial) (RefuseNewer other) one two = absurd (newer_or_not other.0 serial.0 two one)
-  one_choice_of (StoreThoughOther serial) (RefuseNotNewer other) one two = absurd (some_or_none taken TheZone two.1 one.1)
   one_choice_of (StoreThoughOther serial) (RefuseOtherApex other) one two = absurd (same_or_other other (of_serial serial.0 one.2) two)
   one_choice_of (RefuseNewer serial) Same one two = absurd (one.0 two.0)
   one_choice_of (RefuseNewer serial) Store one two = absurd (some_or_none taken TheStore two.1 one.1)
   one_choice_of (RefuseNewer serial) (Zone other) one two = absurd (some_or_none taken TheZone two.1 one.1)
   one_choice_of (RefuseNewer serial) (StoreThoughOther other) one two = absurd (newer_or_not serial.0 other.0 one two)
   one_choice_of (RefuseNewer serial) (RefuseNewer other) one two = ap (λ (s : Serial). RefuseNewer s) (one_serial serial other one.2 two.2)
-  one_choice_of (RefuseNewer serial) (RefuseNotNewer other) one two = absurd (some_or_none taken TheZone two.1 one.1)
   one_choice_of (RefuseNewer serial) (RefuseOtherApex other) one two = absurd (same_or_other other (of_serial serial.0 one.2) two)
-  one_choice_of (RefuseNotNewer serial) Same one two = absurd (one.0 two.0)
-  one_choice_of (RefuseNotNewer serial) Store one two = absurd (store_or_zone taken two.1 one.1)
-  one_choice_of (RefuseNotNewer serial) (Zone other) one two = absurd (taken_or_not other serial.0 two one.2 one.3)
-  one_choice_of (RefuseNotNewer serial) (StoreThoughOther other) one two = absurd (some_or_none taken TheZone one.1 two.1)
-  one_choice_of (RefuseNotNewer serial) (RefuseNewer other) one two = absurd (some_or_none taken TheZone one.1 two.1)
-  one_choice_of (RefuseNotNewer serial) (RefuseNotNewer other) one two = ap (λ (s : Serial). RefuseNotNewer s) (one_serial serial other one.2 two.2)
-  one_choice_of (RefuseNotNewer serial) (RefuseOtherApex other) one two = absurd (same_or_other other (of_serial serial.0 one.2) two)
   one_choice_of (RefuseOtherApex apex) Same one two = absurd (same_or_other apex two.1 one)
   one_choice_of (RefuseOtherApex apex) Store one two = absurd (same_or_other apex two.2 one)
   one_choice_of (RefuseOtherApex apex) (Zone other) one two = absurd (same_or_other apex (of_one other two.2 two.3) one)
   one_choice_of (RefuseOtherApex apex) (StoreThoughOther other) one two = absurd (same_or_other apex (of_serial other.0 two.2) one)
   one_choice_of (RefuseOtherApex apex) (RefuseNewer other) one two = absurd (same_or_other apex (of_serial other.0 two.2) one)
-  one_choice_of (RefuseOtherApex apex) (RefuseNotNewer other) one two = absurd (same_or_other apex (of_serial other.0 two.2) one)
   one_choice_of (RefuseOtherApex apex) (RefuseOtherApex other) one two = ap (λ (n : Name). RefuseOtherApex n) (one_apex apex other one two)
 
   -- a text that is a zone has no fault
@@ -143,7 +124,6 @@ module _ (begun : TextSum) (last : List Record) (origin : Name) (text : List ℕ
   choice_apart (Zone zone) fault is reported = memory_alone zone fault is.2 reported
   choice_apart (StoreThoughOther serial) fault is reported = let has = is.2 in memory_alone has.0 fault has.1 reported
   choice_apart (RefuseNewer serial) fault is reported = let has = is.2 in memory_alone has.0 fault has.1 reported
-  choice_apart (RefuseNotNewer serial) fault is reported = let has = is.2 in memory_alone has.0 fault has.1 reported
   choice_apart (RefuseOtherApex apex) fault is reported = memory_alone is.0 fault is.1 reported
 
   -- the text that a store was begun from
@@ -160,18 +140,12 @@ not_taken : (begun : TextSum) (last : List Record) (origin : Name) (text : List 
 not_taken begun last origin text zone true less other is alike = (other, refl, (zone, is, alike, refl), less)
 not_taken begun last origin text zone false less other is alike = (other, refl, (zone, is, alike, refl), less)
 
-is_taken : (begun : TextSum) (last : List Record) (origin : Name) (text : List ℕ) (zone : List Record) (greater : Bool) → serial_less (zone_serial last) (zone_serial zone) ≡ greater
-    → IsOther begun text → zone_of_text origin text ≡ Ok zone → is_same (apex_of zone) (apex_of last) ≡ true
-    → IsChoice begun last origin text (Some TheZone) (if greater then Zone zone else RefuseNotNewer (record { 0 = zone_serial zone }))
-is_taken begun last origin text zone true less other is alike = (other, refl, is, alike, less)
-is_taken begun last origin text zone false less other is alike = (other, refl, (zone, is, alike, refl), less)
-
 one_apex_chosen : (begun : TextSum) (last : List Record) (origin : Name) (text : List ℕ) (taken : Option Take) (zone : List Record) (same : Bool) → (IsTrue same ↔ IsText begun text)
     → zone_of_text origin text ≡ Ok zone → is_same (apex_of zone) (apex_of last) ≡ true → IsChoice begun last origin text taken (of_one_apex last zone same taken)
 one_apex_chosen begun last origin text taken zone true tested is alike = (tested.0 refl, of_one begun last origin text taken zone is alike)
 one_apex_chosen begun last origin text (Some TheStore) zone false tested is alike = (λ so. not_so (tested.1 so), refl, of_one begun last origin text (Some TheStore) zone is alike)
 one_apex_chosen begun last origin text (Some TheZone) zone false tested is alike =
-    is_taken begun last origin text zone (serial_less (zone_serial last) (zone_serial zone)) refl (λ so. not_so (tested.1 so)) is alike
+    ((λ so. not_so (tested.1 so)), refl, is, alike)
 one_apex_chosen begun last origin text None zone false tested is alike =
     not_taken begun last origin text zone (serial_less (zone_serial last) (zone_serial zone)) refl (λ so. not_so (tested.1 so)) is alike
 

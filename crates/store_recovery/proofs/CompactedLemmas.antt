@@ -3,6 +3,7 @@ use Rattle.std.proofs.Common.{◌≡◌, ℕ, zero, suc, ◌+◌, ◌≤◌, Lis
 use Rattle.std.proofs.lemmas.List.{length-drop}
 use Rattle.dns_rdata.specs.Record.{Record}
 use Rattle.dns_message.specs.declared.update.Update.{Update}
+use Rattle.journal.specs.Batch.{Messages}
 use Rattle.journal.specs.declared.heads.Head.{Head}
 use Rattle.journal.specs.Recovered.{journal_of, updates_in}
 use Rattle.update_core.specs.Act.{act, replay}
@@ -15,7 +16,7 @@ use Rattle.store_recovery.proofs.StoreLemmas.{store_taken}
 use Rattle.store_recovery.specs.Behind.{AreBehind}
 
 -- messages behind the first ones are read as the updates behind the first ones
-read_drop : (k : ℕ) (messages : List (List ℕ)) (updates : List Update) → AreRead messages updates → AreRead (drop k messages) (drop k updates)
+read_drop : (k : ℕ) (messages : List Messages) (updates : List Update) → AreRead messages updates → AreRead (drop k messages) (drop k updates)
 read_drop zero messages updates are = are
 read_drop (suc k) [] [] are = tt
 read_drop (suc k) [] (update ∷ updates) are = absurd are
@@ -49,7 +50,7 @@ replay_rest zone [] (suc k) = refl
 replay_rest zone (update ∷ updates) (suc k) = replay_rest (unwrap_or (act zone update) zone) updates k
 
 -- a store of the version behind the first updates
-pub compacted_store : (text written : List ℕ) (head next : Head) (batches rest : List (List (List ℕ))) (zone : List Record) (updates : List Update) (k : ℕ)
+pub compacted_store : (text written : List ℕ) (head next : Head) (batches rest : List (List Messages)) (zone : List Record) (updates : List Update) (k : ℕ)
     → IsStore text head batches zone updates → IsStore written next [] (replay zone (take k updates)) [] → AreBehind k batches rest
     → IsStore written next rest (replay zone (take k updates)) (drop k updates)
 compacted_store text written head next batches rest zone updates k store begun behind = record {
@@ -59,12 +60,12 @@ compacted_store text written head next batches rest zone updates k store begun b
   serial = begun.serial;
   short = behind.short;
   fit = behind.fit;
-  read = subst (λ (messages : List (List ℕ)). AreRead messages (drop k updates)) (sym behind.all) (read_drop k (updates_in batches) updates store.read);
+  read = subst (λ (messages : List Messages). AreRead messages (drop k updates)) (sym behind.all) (read_drop k (updates_in batches) updates store.read);
   taken = changes_drop k zone updates store.taken;
 }
 
 -- and a start of it
-pub compacted_started : (text written : List ℕ) (head next : Head) (batches rest : List (List (List ℕ))) (zone : List Record) (updates : List Update) (k : ℕ) (start later : Recovery)
+pub compacted_started : (text written : List ℕ) (head next : Head) (batches rest : List (List Messages)) (zone : List Record) (updates : List Update) (k : ℕ) (start later : Recovery)
     → IsStore text head batches zone updates → IsStore written next [] (replay zone (take k updates)) [] → AreBehind k batches rest → k ≤ length updates
     → IsStarted text (journal_of head batches) start → IsStarted written (journal_of next rest) later
     → (start.newest.last.zone ≡ later.newest.last.zone) × (start.newest.last.number ≡ k + later.newest.last.number)

@@ -6,7 +6,7 @@ use Rattle.std.proofs.lemmas.List.Elements.{All-nil, All-cons, All-head, All-tai
 use Rattle.std.proofs.lemmas.List.Concat.{flat_map-append}
 use Rattle.std.proofs.Math.Seq.{take-append-add}
 use Rattle.journal.specs.declared.heads.Head.{Head}
-use Rattle.journal.specs.Batch.{batch_of, IsShort, IsBatch}
+use Rattle.journal.specs.Batch.{Messages, batch_of, IsRequest, IsBatch}
 use Rattle.journal.specs.Frame.{frames_of, Fit, NoFrame, IsRead}
 use Rattle.journal.specs.Head.{head_of, salt_of, IsHead}
 use Rattle.journal.specs.Recovered.{journal_of, updates_in, IsOpened, IsRecovered, IsNoBatch}
@@ -28,13 +28,13 @@ fit_both number (body ∷ bodies) others first later =
     (first.0, first.1, fit_both (number + 1) bodies others first.2 (subst (λ (n : ℕ). Fit n others) (omega arith) later))
 
 -- batches whose updates are short, in two parts
-pub short_first : (batches others : List (List (List ℕ))) → All (All IsShort) (batches ++ others) → All (All IsShort) batches
-short_first [] others short = All-nil (All IsShort)
+pub short_first : (batches others : List (List Messages)) → All (All IsRequest) (batches ++ others) → All (All IsRequest) batches
+short_first [] others short = All-nil (All IsRequest)
 short_first (batch ∷ batches) others short =
-    All-cons (All IsShort) batch batches (All-head (All IsShort) batch (batches ++ others) short) (short_first batches others (All-tail (All IsShort) batch (batches ++ others) short))
+    All-cons (All IsRequest) batch batches (All-head (All IsRequest) batch (batches ++ others) short) (short_first batches others (All-tail (All IsRequest) batch (batches ++ others) short))
 
 -- a journal's octets: those of its first batches, and the frames of the later ones
-journal-append : (head : Head) (synced later : List (List (List ℕ)))
+journal-append : (head : Head) (synced later : List (List Messages))
     → journal_of head (synced ++ later) ≡ journal_of head synced ++ frames_of (salt_of head) (0 + length (map batch_of synced)) (map batch_of later)
 journal-append head synced later =
     let salt : List ℕ = salt_of head in
@@ -45,16 +45,16 @@ journal-append head synced later =
     ∙ sym (append_assoc (head_of head) (frames_of salt 0 first) (frames_of salt (0 + length first) others)))
 
 -- the batches that are left of a journal that is cut, and octets that begin with no further one
-pub record Cut (head : Head) (synced later : List (List (List ℕ))) (octets : List ℕ) : Type 0 where
-  pub left : List (List (List ℕ))
-  pub gone : List (List (List ℕ))
+pub record Cut (head : Head) (synced later : List (List Messages)) (octets : List ℕ) : Type 0 where
+  pub left : List (List Messages)
+  pub gone : List (List Messages)
   pub rest : List ℕ
   pub parts : later ≡ left ++ gone
   pub spelt : octets ≡ journal_of head (synced ++ left) ++ rest
   pub fit : Fit 0 (map batch_of (synced ++ left))
   pub no_more : NoFrame (salt_of head) (0 + length (map batch_of (synced ++ left))) rest
 
-pub cut_is : (head : Head) (synced later : List (List (List ℕ))) (n : ℕ) → Fit 0 (map batch_of (synced ++ later))
+pub cut_is : (head : Head) (synced later : List (List Messages)) (n : ℕ) → Fit 0 (map batch_of (synced ++ later))
     → Cut head synced later (take (length (journal_of head synced) + n) (journal_of head (synced ++ later)))
 cut_is head synced later n fit =
     let salt : List ℕ = salt_of head in
@@ -96,7 +96,7 @@ cut_is head synced later n fit =
         length_both (x ∷ xs) ys = omega (arith, length_both xs ys)
 
 -- bodies are read as these batches, where no further one begins behind them
-pub bodies_read : (head other : Head) (batches : List (List (List ℕ))) (left : List ℕ) (bodies : List (List ℕ)) (rest : List ℕ)
+pub bodies_read : (head other : Head) (batches : List (List Messages)) (left : List ℕ) (bodies : List (List ℕ)) (rest : List ℕ)
     → IsHead head → Fit 0 (map batch_of batches) → NoFrame (salt_of head) (0 + length (map batch_of batches)) left → IsOpened (journal_of head batches ++ left) other bodies rest
     → (head ≡ other) × (bodies ≡ map batch_of batches)
 bodies_read head other batches left bodies rest is fit none opened =
@@ -106,8 +106,8 @@ bodies_read head other batches left bodies rest is fit none opened =
     (found.0, once.0)
 
 -- and their updates are what a start has
-pub cut_recovered : (text left : List ℕ) (head other : Head) (batches : List (List (List ℕ))) (updates : List (List ℕ)) (number end : ℕ) (torn : Bool)
-    → IsHead head → Fit 0 (map batch_of batches) → All (All IsShort) batches → NoFrame (salt_of head) (0 + length (map batch_of batches)) left
+pub cut_recovered : (text left : List ℕ) (head other : Head) (batches : List (List Messages)) (updates : List Messages) (number end : ℕ) (torn : Bool)
+    → IsHead head → Fit 0 (map batch_of batches) → All (All IsRequest) batches → NoFrame (salt_of head) (0 + length (map batch_of batches)) left
     → IsRecovered text (journal_of head batches ++ left) other updates number end torn
     → (other ≡ head) × (updates ≡ updates_in batches)
 cut_recovered text left head other batches updates number end torn is fit short none found =
@@ -122,17 +122,17 @@ none_stands : (number : ℕ) (body : List ℕ) → slice_get [] number ≡ Some 
 none_stands number body e = cc
 
 -- a body of batches is one
-pub is_one : (batches : List (List (List ℕ))) (number : ℕ) (body : List ℕ) → All (All IsShort) batches → slice_get (map batch_of batches) number ≡ Some body
-    → (updates : List (List ℕ)) × IsBatch body updates
+pub is_one : (batches : List (List Messages)) (number : ℕ) (body : List ℕ) → All (All IsRequest) batches → slice_get (map batch_of batches) number ≡ Some body
+    → (updates : List Messages) × IsBatch body updates
 is_one [] number body short is_present = absurd (none_stands number body is_present)
-is_one (batch ∷ batches) zero body short is_present = (batch, record { short = All-head (All IsShort) batch batches short; spelt = some_same body (batch_of batch) is_present })
-is_one (batch ∷ batches) (suc number) body short is_present = is_one batches number body (All-tail (All IsShort) batch batches short) is_present
+is_one (batch ∷ batches) zero body short is_present = (batch, record { short = All-head (All IsRequest) batch batches short; spelt = some_same body (batch_of batch) is_present })
+is_one (batch ∷ batches) (suc number) body short is_present = is_one batches number body (All-tail (All IsRequest) batch batches short) is_present
 
-pub not_no_batch : (bodies : List (List ℕ)) (batches : List (List (List ℕ))) (number : ℕ) → All (All IsShort) batches → bodies ≡ map batch_of batches → IsNoBatch bodies number → ⊥
+pub not_no_batch : (bodies : List (List ℕ)) (batches : List (List Messages)) (number : ℕ) → All (All IsRequest) batches → bodies ≡ map batch_of batches → IsNoBatch bodies number → ⊥
 not_no_batch bodies batches number short same none =
     let batch = is_one batches number none.body short (ap (λ (bs : List (List ℕ)). slice_get bs number) (sym same) ∙ none.is_present) in
     none.none batch.0 batch.1
 
 -- the updates of the first batches are the first of the updates
-pub updates-append : (batches others : List (List (List ℕ))) → updates_in (batches ++ others) ≡ updates_in batches ++ updates_in others
-updates-append batches others = flat_map-append (λ (updates : List (List ℕ)). updates) batches others
+pub updates-append : (batches others : List (List Messages)) → updates_in (batches ++ others) ≡ updates_in batches ++ updates_in others
+updates-append batches others = flat_map-append (λ (updates : List Messages). updates) batches others

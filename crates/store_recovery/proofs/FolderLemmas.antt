@@ -6,7 +6,7 @@ use Rattle.dns_message.specs.declared.update.Update.{Update}
 use Rattle.master_file.specs.declared.fault.FileFault.{FileFault}
 use Rattle.master_file.specs.ZoneText.{zone_of_text}
 use Rattle.journal.specs.declared.heads.Head.{Head}
-use Rattle.journal.specs.Batch.{batch_of}
+use Rattle.journal.specs.Batch.{Messages, batch_of}
 use Rattle.journal.specs.Frame.{frames_of, IsRead}
 use Rattle.journal.specs.Head.{salt_of}
 use Rattle.journal.specs.Recovered.{journal_of, updates_in}
@@ -34,7 +34,7 @@ one_zone : (read : Result (List Record) FileFault) (zone other : List Record) �
 one_zone read zone other one two = cc
 
 -- a journal's head and batches are one
-one_journal : (text other_text : List ℕ) (head other : Head) (batches others : List (List (List ℕ))) (zone other_zone : List Record) (updates other_updates : List Update)
+one_journal : (text other_text : List ℕ) (head other : Head) (batches others : List (List Messages)) (zone other_zone : List Record) (updates other_updates : List Update)
     → IsStore text head batches zone updates → IsStore other_text other others other_zone other_updates → journal_of head batches ≡ journal_of other others
     → (head ≡ other) × (batches ≡ others)
 one_journal text other_text head other batches others zone other_zone updates other_updates store also same =
@@ -49,7 +49,7 @@ one_journal text other_text head other batches others zone other_zone updates ot
     (heads.0, same_batches batches others store.short also.short once.0)
 
 -- a folder means one store
-pub one_meaning : (folder : Folder) (head other : Head) (batches others : List (List (List ℕ))) (zone other_zone : List Record) (updates other_updates : List Update)
+pub one_meaning : (folder : Folder) (head other : Head) (batches others : List (List Messages)) (zone other_zone : List Record) (updates other_updates : List Update)
     → Means folder head batches zone updates → Means folder other others other_zone other_updates
     → (head ≡ other) × (batches ≡ others) × (zone ≡ other_zone) × (updates ≡ other_updates)
 one_meaning folder head other batches others zone other_zone updates other_updates means also =
@@ -57,7 +57,7 @@ one_meaning folder head other batches others zone other_zone updates other_updat
     let same = one_journal means.text also.text head other batches others zone other_zone updates other_updates means.store also.store octets in
     let text : means.text ≡ also.text =
     one_file (folder.texts head.number) means.text also.text means.there (ap (λ (h : Head). folder.texts h.number) same.0 ∙ also.there) in
-    let read : AreRead (updates_in batches) other_updates = subst (λ (bs : List (List (List ℕ))). AreRead (updates_in bs) other_updates) (sym same.1) also.store.read in (
+    let read : AreRead (updates_in batches) other_updates = subst (λ (bs : List (List Messages)). AreRead (updates_in bs) other_updates) (sym same.1) also.store.read in (
       same.0,
       same.1,
       one_zone (zone_of_text [] means.text) zone other_zone means.store.is_zone (ap (λ (o : List ℕ). zone_of_text [] o) text ∙ also.store.is_zone),
@@ -76,7 +76,7 @@ other_kept : (texts : ℕ → Option (List ℕ)) (n number : ℕ) (given : Optio
 other_kept texts n number given differs = kept (n == number) given (texts n) (ne_eqb n number (λ e. differs (sym e)))
 
 -- a text that the journal doesn't name is written, or goes
-pub text_written : (folder : Folder) (head : Head) (batches : List (List (List ℕ))) (zone : List Record) (updates : List Update) (number : ℕ) (text : List ℕ)
+pub text_written : (folder : Folder) (head : Head) (batches : List (List Messages)) (zone : List Record) (updates : List Update) (number : ℕ) (text : List ℕ)
     → Means folder head batches zone updates → number ≢ head.number → Means (with_text folder number text) head batches zone updates
 text_written folder head batches zone updates number text means differs = record {
   text = means.text;
@@ -85,7 +85,7 @@ text_written folder head batches zone updates number text means differs = record
   store = means.store;
 }
 
-pub text_removed : (folder : Folder) (head : Head) (batches : List (List (List ℕ))) (zone : List Record) (updates : List Update) (number : ℕ)
+pub text_removed : (folder : Folder) (head : Head) (batches : List (List Messages)) (zone : List Record) (updates : List Update) (number : ℕ)
     → Means folder head batches zone updates → number ≢ head.number → Means (without_text folder number) head batches zone updates
 text_removed folder head batches zone updates number means differs = record {
   text = means.text;
@@ -95,7 +95,7 @@ text_removed folder head batches zone updates number means differs = record {
 }
 
 -- a journal that names another text is renamed over it
-pub journal_renamed : (folder : Folder) (head next : Head) (batches rest : List (List (List ℕ))) (zone : List Record) (updates : List Update) (k : ℕ) (written : List ℕ)
+pub journal_renamed : (folder : Folder) (head next : Head) (batches rest : List (List Messages)) (zone : List Record) (updates : List Update) (k : ℕ) (written : List ℕ)
     → Means folder head batches zone updates → folder.texts next.number ≡ Some written → IsStore written next [] (replay zone (take k updates)) [] → AreBehind k batches rest
     → Means (with_journal folder (journal_of next rest)) next rest (replay zone (take k updates)) (drop k updates)
 journal_renamed folder head next batches rest zone updates k written means there begun behind = record {
@@ -106,7 +106,7 @@ journal_renamed folder head next batches rest zone updates k written means there
 }
 
 -- what a start reads of a folder that means a store: its journal and its zone text
-pair_read : (folder : Folder) (head : Head) (batches : List (List (List ℕ))) (zone : List Record) (updates : List Update) (octets text : List ℕ)
+pair_read : (folder : Folder) (head : Head) (batches : List (List Messages)) (zone : List Record) (updates : List Update) (octets text : List ℕ)
     → (means : Means folder head batches zone updates) → HasPair folder octets text → (octets ≡ journal_of head batches) × (text ≡ means.text)
 pair_read folder head batches zone updates octets text means pair =
     let same : octets ≡ journal_of head batches = one_file folder.journal octets (journal_of head batches) pair.journal means.journal in
@@ -114,7 +114,7 @@ pair_read folder head batches zone updates octets text means pair =
     (same, one_file (folder.texts head.number) text means.text (ap (λ (h : Head). folder.texts h.number) (sym one.0) ∙ pair.there) means.there)
 
 -- and a start of it
-pub folder_taken : (folder : Folder) (head : Head) (batches : List (List (List ℕ))) (zone : List Record) (updates : List Update) (octets text : List ℕ) (start : Recovery)
+pub folder_taken : (folder : Folder) (head : Head) (batches : List (List Messages)) (zone : List Record) (updates : List Update) (octets text : List ℕ) (start : Recovery)
     → Means folder head batches zone updates → HasPair folder octets text → IsStarted text octets start
     → (start.head ≡ head) × (start.newest.last.zone ≡ replay zone updates) × (start.newest.last.number ≡ length updates)
 folder_taken folder head batches zone updates octets text start means pair is =
@@ -125,7 +125,7 @@ folder_taken folder head batches zone updates octets text start means pair is =
     let last = store_taken means.text head batches zone updates start means.store here in
     (found.0, last.0, last.1)
 
-pub folder_accepted : (folder : Folder) (head : Head) (batches : List (List (List ℕ))) (zone : List Record) (updates : List Update) (octets text : List ℕ) (fault : StartFault)
+pub folder_accepted : (folder : Folder) (head : Head) (batches : List (List Messages)) (zone : List Record) (updates : List Update) (octets text : List ℕ) (fault : StartFault)
     → Means folder head batches zone updates → HasPair folder octets text → IsStartFault text octets fault → fault ≡ NoMemory
 folder_accepted folder head batches zone updates octets text fault means pair is =
     let same = pair_read folder head batches zone updates octets text means pair in

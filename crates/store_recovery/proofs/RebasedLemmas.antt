@@ -1,4 +1,5 @@
 -- Versions as a cell begins with them.
+use Rattle.journal.specs.Batch.{Messages}
 use Rattle.std.proofs.Common.{◌≡◌, ◌≢◌, ℕ, zero, suc, ◌+◌, ◌-◌, ◌<◌, ◌≤◌, true, List, [], ◌∷◌, ◌++◌, length, take, drop, set, get_or, map, remove, Option, None, Some, refl, sym, ap, ◌∙◌, subst, append_assoc, append-nil, length-append, arith}
 use Rattle.std.proofs.lemmas.List.{take_all, drop_all, drop-drop, drop-map, length-map, length_push}
 use Rattle.std.proofs.Math.Seq.{take-append_seam, drop-append_seam}
@@ -112,24 +113,24 @@ rebased_begin (oldest ∷ versions) first later follow is =
     subst Begin (sym is) begin
 
 -- the newest versions of a replay are the last of those that an engine publishes
-newest_held : (zone : List Record) (messages : List (List ℕ)) (kept : RecentVersions) (is : IsReplayed zone messages kept) → versions_in kept ≡ all_held (held_from (begun zone) is.updates)
+newest_held : (zone : List Record) (messages : List Messages) (kept : RecentVersions) (is : IsReplayed zone messages kept) → versions_in kept ≡ all_held (held_from (begun zone) is.updates)
 newest_held zone messages kept is =
     ap (λ (vs : List Version). vs ++ kept.last ∷ []) is.older ∙ ap (λ (v : Version). (held_from (begun zone) is.updates).older ++ v ∷ []) is.last
 
-held_is_newest : (zone : List Record) (messages : List (List ℕ)) (kept : RecentVersions) (is : IsReplayed zone messages kept) → IsNewest zone (held_from (begun zone) is.updates)
+held_is_newest : (zone : List Record) (messages : List Messages) (kept : RecentVersions) (is : IsReplayed zone messages kept) → IsNewest zone (held_from (begun zone) is.updates)
 held_is_newest zone messages kept is = held_newest zone (begun zone) is.updates (begun_newest zone) is.taken
 
-newest_follow : (zone : List Record) (messages : List (List ℕ)) (kept : RecentVersions) → IsReplayed zone messages kept → Follow (versions_in kept)
+newest_follow : (zone : List Record) (messages : List Messages) (kept : RecentVersions) → IsReplayed zone messages kept → Follow (versions_in kept)
 newest_follow zone messages kept is =
     subst Follow (sym (newest_held zone messages kept is)) (held_follow zone (held_from (begun zone) is.updates) (held_is_newest zone messages kept is))
 
 -- and they are begun with
-pub newest_begin : (zone : List Record) (messages : List (List ℕ)) (kept : RecentVersions) (first : Version) (later : List Version) → IsReplayed zone messages kept → first ∷ later ≡ rebased (versions_in kept)
+pub newest_begin : (zone : List Record) (messages : List Messages) (kept : RecentVersions) (first : Version) (later : List Version) → IsReplayed zone messages kept → first ∷ later ≡ rebased (versions_in kept)
     → IsFirst first.zone first × AreNext first later
 newest_begin zone messages kept first later is same = rebased_begin (versions_in kept) first later (newest_follow zone messages kept is) same
 
 -- they are as many as are kept and the last
-newest_of_all : (zone : List Record) (messages : List (List ℕ)) (kept : RecentVersions) (is : IsReplayed zone messages kept) → versions_in kept ≡ newest (KEPT + 1) (held_from (begun zone) is.updates).published
+newest_of_all : (zone : List Record) (messages : List Messages) (kept : RecentVersions) (is : IsReplayed zone messages kept) → versions_in kept ≡ newest (KEPT + 1) (held_from (begun zone) is.updates).published
 newest_of_all zone messages kept is =
     let held : Held = held_from (begun zone) is.updates in
     let n : IsNewest zone held = held_is_newest zone messages kept is in
@@ -174,7 +175,7 @@ newest_later {A} most xs ys long same =
     ∙ (ap (λ (n : ℕ). drop (n - most) (drop 1 ys)) long ∙ sym (drop_later (length ys - most) ys)))
 
 -- fewer of the newest versions, or of what they have
-fewer : {B : Type 0} (f : Version → B) (zone : List Record) (messages : List (List ℕ)) (kept : RecentVersions) (keep : ℕ) (is : IsReplayed zone messages kept) → keep ≤ KEPT
+fewer : {B : Type 0} (f : Version → B) (zone : List Record) (messages : List Messages) (kept : RecentVersions) (keep : ℕ) (is : IsReplayed zone messages kept) → keep ≤ KEPT
     → newest (keep + 1) (map f (versions_in kept)) ≡ newest (keep + 1) (map f (held_from (begun zone) is.updates).published)
 fewer {B} f zone messages kept keep is few =
     let published : List Version = (held_from (begun zone) is.updates).published in
@@ -186,7 +187,7 @@ resumed : (versions : List Version) (first : Version) (later : List Version) (ke
     → all_held (held_through (held_alone (first ∷ []) first keep) later) ≡ newest (keep + 1) (rebased versions)
 resumed versions first later keep is = alone_all first keep later ∙ ap (λ (vs : List Version). newest (keep + 1) vs) is
 
-pub resumed_zones : (zone : List Record) (messages : List (List ℕ)) (kept : RecentVersions) (first : Version) (later : List Version) (keep : ℕ) (is : IsReplayed zone messages kept)
+pub resumed_zones : (zone : List Record) (messages : List Messages) (kept : RecentVersions) (first : Version) (later : List Version) (keep : ℕ) (is : IsReplayed zone messages kept)
     → keep ≤ KEPT → first ∷ later ≡ rebased (versions_in kept)
     → zones_of (all_held (held_through (held_alone (first ∷ []) first keep) later)) ≡ newest (keep + 1) (zones_of (held_from (begun zone) is.updates).published)
 resumed_zones zone messages kept first later keep is few same =
@@ -198,7 +199,7 @@ rebased_long : (versions : List Version) → length (changes_of (rebased version
 rebased_long [] = refl
 rebased_long (oldest ∷ later) = ap (λ (cs : List (Option Changes)). suc (length cs)) (numbered_changes 1 later)
 
-pub resumed_changes : (zone : List Record) (messages : List (List ℕ)) (kept : RecentVersions) (first : Version) (later : List Version) (keep : ℕ) (is : IsReplayed zone messages kept)
+pub resumed_changes : (zone : List Record) (messages : List Messages) (kept : RecentVersions) (first : Version) (later : List Version) (keep : ℕ) (is : IsReplayed zone messages kept)
     → keep ≤ KEPT → first ∷ later ≡ rebased (versions_in kept)
     → drop 1 (changes_of (all_held (held_through (held_alone (first ∷ []) first keep) later))) ≡ drop 1 (newest (keep + 1) (changes_of (held_from (begun zone) is.updates).published))
 resumed_changes zone messages kept first later keep is few same =

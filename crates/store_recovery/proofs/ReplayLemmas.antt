@@ -1,5 +1,6 @@
 -- Messages that are replayed, one after another.
-use Rattle.std.proofs.Common.{◌≡◌, ◌≢◌, ℕ, zero, suc, ◌+◌, ◌<◌, ◌≤◌, true, List, [], ◌∷◌, ◌++◌, length, take, get_or, map, Option, None, Some, Result, Ok, Err, unwrap_or, Bor, refl, sym, ap, ◌∙◌, subst, arith, if◌then◌else◌}
+use Rattle.journal.specs.Batch.{Messages}
+use Rattle.std.proofs.Common.{◌≡◌, ◌≢◌, ℕ, zero, suc, ◌+◌, ◌<◌, ◌≤◌, true, List, [], ◌∷◌, ◌++◌, length, take, get_or, map, Option, None, Some, Result, Ok, Err, unwrap_or, Bor, refl, sym, ap, ◌∙◌, subst, arith, if◌then◌else◌, Vec, Global}
 use Rattle.std.specs.Prelude.{slice_get, MatchResult}
 use Rattle.std.specs.Option.{option_or, is_some}
 use Rattle.std.proofs.lemmas.Option.{slice_get-get_or}
@@ -19,15 +20,16 @@ use Rattle.dns_engine.proofs.ReplayLemmas.{changes_more}
 use Rattle.store_recovery.specs.declared.fault.UpdateFault.{UpdateFault}
 use Rattle.store_recovery.specs.declared.fault.UpdateFault.TheVariants.{NotAnUpdate, Refused, ChangesNothing}
 use Rattle.store_recovery.specs.declared.recent_versions.RecentVersions.{RecentVersions}
-use Rattle.store_recovery.specs.Replay.{IsRead, AreRead, version_by, begun, held_from, IsMade, IsReplayed, IsUpdateFault, IsNotTaken}
+use Rattle.update_messages.specs.Joined.{IsRead}
+use Rattle.store_recovery.specs.Replay.{AreRead, version_by, begun, held_from, IsMade, IsReplayed, IsUpdateFault, IsNotTaken}
 use Rattle.store_recovery.proofs.HeldLemmas.{makes_by, held_zone, held_number, held_keep, held_more}
 use Rattle.store_recovery.proofs.ReadLemmas.{read_one, read_once, read_long, read_more, read_take}
 
 -- the last of the newest versions has the replayed zone, and counts the updates
-pub replayed_zone : (zone : List Record) (messages : List (List ℕ)) (kept : RecentVersions) (is : IsReplayed zone messages kept) → kept.last.zone ≡ replay zone is.updates
+pub replayed_zone : (zone : List Record) (messages : List Messages) (kept : RecentVersions) (is : IsReplayed zone messages kept) → kept.last.zone ≡ replay zone is.updates
 replayed_zone zone messages kept is = ap (λ (version : Version). version.zone) is.last ∙ held_zone (begun zone) is.updates
 
-pub replayed_number : (zone : List Record) (messages : List (List ℕ)) (kept : RecentVersions) → IsReplayed zone messages kept → kept.last.number ≡ length messages
+pub replayed_number : (zone : List Record) (messages : List Messages) (kept : RecentVersions) → IsReplayed zone messages kept → kept.last.number ≡ length messages
 replayed_number zone messages kept is =
     ap (λ (version : Version). version.number) is.last ∙ (held_number (begun zone) is.updates ∙ omega (arith, read_long messages is.updates is.read))
 
@@ -47,7 +49,7 @@ pub none_replayed : (zone : List Record) (kept : RecentVersions) → kept.last �
 none_replayed zone kept last older = record { updates = []; read = tt; taken = tt; last = last; older = older }
 
 -- one message more is replayed
-pub more_replayed : (zone : List Record) (messages : List (List ℕ)) (message : List ℕ) (kept next : RecentVersions)
+pub more_replayed : (zone : List Record) (messages : List Messages) (message : Messages) (kept next : RecentVersions)
     → IsReplayed zone messages kept → IsMade kept.last message next.last → next.older.items ≡ newest KEPT (kept.older.items ++ kept.last ∷ [])
     → IsReplayed zone (messages ++ message ∷ []) next
 more_replayed zone messages message kept next is made older =
@@ -71,70 +73,74 @@ more_replayed zone messages message kept next is made older =
     }
 
 -- the same of what is lent
-abbrev pub now_of : List (Bor (List ℕ)) → List (List ℕ)
-now_of lent = map (λ (b : Bor (List ℕ)). b.now) lent
+-- a request of lent messages, and requests
+abbrev pub messages_now : Vec (Bor (List ℕ)) Global → Messages
+messages_now request = map (λ (m : Bor (List ℕ)). m.now) request.items
 
-lent_at : (messages : List (Bor (List ℕ))) (place : ℕ) (d : Bor (List ℕ)) → place < length messages → get_or (now_of messages) place d.now ≡ (get_or messages place d).now
-lent_at messages place d within = get_or-map (λ (b : Bor (List ℕ)). b.now) messages place d d.now within
+abbrev pub now_of : List (Vec (Bor (List ℕ)) Global) → List Messages
+now_of lent = map messages_now lent
 
-lent_long : (messages : List (Bor (List ℕ))) → length (now_of messages) ≡ length messages
-lent_long messages = length-map messages (λ (b : Bor (List ℕ)). b.now)
+lent_at : (messages : List (Vec (Bor (List ℕ)) Global)) (place : ℕ) (d : Vec (Bor (List ℕ)) Global) → place < length messages → get_or (now_of messages) place (messages_now d) ≡ (messages_now (get_or messages place d))
+lent_at messages place d within = get_or-map messages_now messages place d (messages_now d) within
+
+lent_long : (messages : List (Vec (Bor (List ℕ)) Global)) → length (now_of messages) ≡ length messages
+lent_long messages = length-map messages messages_now
 
 -- the messages up to a place, and the one there
-lent_more : (messages : List (Bor (List ℕ))) (place : ℕ) (d : Bor (List ℕ)) → place < length messages
-    → take (place + 1) (now_of messages) ≡ take place (now_of messages) ++ (get_or messages place d).now ∷ []
+lent_more : (messages : List (Vec (Bor (List ℕ)) Global)) (place : ℕ) (d : Vec (Bor (List ℕ)) Global) → place < length messages
+    → take (place + 1) (now_of messages) ≡ take place (now_of messages) ++ (messages_now (get_or messages place d)) ∷ []
 lent_more messages place d within =
-    take_more (now_of messages) place d.now (omega (arith, within, lent_long messages)) ∙ ap (λ (m : List ℕ). take place (now_of messages) ++ m ∷ []) (lent_at messages place d within)
+    take_more (now_of messages) place (messages_now d) (omega (arith, within, lent_long messages)) ∙ ap (λ (m : Messages). take place (now_of messages) ++ m ∷ []) (lent_at messages place d within)
 
-pub one_more_replayed : (zone : List Record) (messages : List (Bor (List ℕ))) (place : ℕ) (d : Bor (List ℕ)) (kept after : RecentVersions) (next : Version)
-    → IsReplayed zone (take place (now_of messages)) kept → place < length messages → IsMade kept.last (get_or messages place d).now next
+pub one_more_replayed : (zone : List Record) (messages : List (Vec (Bor (List ℕ)) Global)) (place : ℕ) (d : Vec (Bor (List ℕ)) Global) (kept after : RecentVersions) (next : Version)
+    → IsReplayed zone (take place (now_of messages)) kept → place < length messages → IsMade kept.last (messages_now (get_or messages place d)) next
     → after.last ≡ next → after.older.items ≡ newest KEPT (kept.older.items ++ kept.last ∷ []) → IsReplayed zone (take (place + 1) (now_of messages)) after
 one_more_replayed zone messages place d kept after next is within made last older =
-    subst (λ (ms : List (List ℕ)). IsReplayed zone ms after) (sym (lent_more messages place d within))
-    (more_replayed zone (take place (now_of messages)) (get_or messages place d).now kept after is
-    (subst (λ (version : Version). IsMade kept.last (get_or messages place d).now version) (sym last) made) older)
+    subst (λ (ms : List Messages). IsReplayed zone ms after) (sym (lent_more messages place d within))
+    (more_replayed zone (take place (now_of messages)) (messages_now (get_or messages place d)) kept after is
+    (subst (λ (version : Version). IsMade kept.last (messages_now (get_or messages place d)) version) (sym last) made) older)
 
-pub so_far_number : (zone : List Record) (messages : List (Bor (List ℕ))) (place : ℕ) (kept : RecentVersions) → IsReplayed zone (take place (now_of messages)) kept → place ≤ length messages
+pub so_far_number : (zone : List Record) (messages : List (Vec (Bor (List ℕ)) Global)) (place : ℕ) (kept : RecentVersions) → IsReplayed zone (take place (now_of messages)) kept → place ≤ length messages
     → kept.last.number ≡ place
 so_far_number zone messages place kept is within =
     replayed_number zone (take place (now_of messages)) kept is ∙ omega (arith, length-take place (now_of messages), lent_long messages)
 
-pub all_replayed : (zone : List Record) (messages : List (Bor (List ℕ))) (place : ℕ) (kept : RecentVersions) → IsReplayed zone (take place (now_of messages)) kept → length messages ≤ place
+pub all_replayed : (zone : List Record) (messages : List (Vec (Bor (List ℕ)) Global)) (place : ℕ) (kept : RecentVersions) → IsReplayed zone (take place (now_of messages)) kept → length messages ≤ place
     → IsReplayed zone (now_of messages) kept
 all_replayed zone messages place kept is end =
-    subst (λ (ms : List (List ℕ)). IsReplayed zone ms kept) (take_all place (now_of messages) (omega (arith, end, lent_long messages))) is
+    subst (λ (ms : List Messages). IsReplayed zone ms kept) (take_all place (now_of messages) (omega (arith, end, lent_long messages))) is
 
 -- the message at a place isn't taken
-pub not_taken_at : (zone : List Record) (messages : List (Bor (List ℕ))) (place : ℕ) (d : Bor (List ℕ)) (kept : RecentVersions) (fault : UpdateFault)
-    → IsReplayed zone (take place (now_of messages)) kept → place < length messages → IsUpdateFault kept.last.zone (get_or messages place d).now fault
+pub not_taken_at : (zone : List Record) (messages : List (Vec (Bor (List ℕ)) Global)) (place : ℕ) (d : Vec (Bor (List ℕ)) Global) (kept : RecentVersions) (fault : UpdateFault)
+    → IsReplayed zone (take place (now_of messages)) kept → place < length messages → IsUpdateFault kept.last.zone (messages_now (get_or messages place d)) fault
     → IsNotTaken zone (now_of messages) place fault
 not_taken_at zone messages place d kept fault is within why = record {
   before = is.updates;
   read = is.read;
   taken = is.taken;
-  message = (get_or messages place d).now;
-  is_present = slice_get-get_or (now_of messages) place d.now (omega (arith, within, lent_long messages)) ∙ ap Some (lent_at messages place d within);
-  why = subst (λ (z : List Record). IsUpdateFault z (get_or messages place d).now fault) (replayed_zone zone (take place (now_of messages)) kept is) why;
+  message = (messages_now (get_or messages place d));
+  is_present = slice_get-get_or (now_of messages) place (messages_now d) (omega (arith, within, lent_long messages)) ∙ ap Some (lent_at messages place d within);
+  why = subst (λ (z : List Record). IsUpdateFault z (messages_now (get_or messages place d)) fault) (replayed_zone zone (take place (now_of messages)) kept is) why;
 }
 
 -- what is known of a message of those that are taken: its update, and that this is taken in the zone that those before it leave
-record TakenAt (zone : List Record) (message : List ℕ) : Type 0 where
+record TakenAt (zone : List Record) (message : Messages) : Type 0 where
   update : Update
   read : IsRead message update
   shows : Shown zone update
 
-some_same : (message other : List ℕ) → Some message ≡ Some other → message ≡ other
+some_same : (message other : Messages) → Some message ≡ Some other → message ≡ other
 some_same message other e = cc
 
-nothing_stands : (message : List ℕ) (place : ℕ) → slice_get [] place ≡ Some message → ⊥
+nothing_stands : (message : Messages) (place : ℕ) → slice_get [] place ≡ Some message → ⊥
 nothing_stands message place e = cc
 
-taken_at : (zone : List Record) (messages : List (List ℕ)) (updates : List Update) (place : ℕ) (message : List ℕ)
+taken_at : (zone : List Record) (messages : List Messages) (updates : List Update) (place : ℕ) (message : Messages)
     → AreRead messages updates → EachChanges zone updates → slice_get messages place ≡ Some message → TakenAt (replay zone (take place updates)) message
 taken_at zone [] updates place message read taken is_present = absurd (nothing_stands message place is_present)
 taken_at zone (first ∷ messages) [] place message read taken is_present = absurd read
 taken_at zone (first ∷ messages) (update ∷ updates) zero message read taken is_present =
-    record { update = update; read = subst (λ (m : List ℕ). IsRead m update) (some_same first message is_present) read.0; shows = record { taken = taken.0; changed = taken.1 } }
+    record { update = update; read = subst (λ (m : Messages). IsRead m update) (some_same first message is_present) read.0; shows = record { taken = taken.0; changed = taken.1 } }
 taken_at zone (first ∷ messages) (update ∷ updates) (suc place) message read taken is_present =
     taken_at (unwrap_or (act zone update) zone) messages updates place message read.1 taken.2 is_present
 
@@ -145,7 +151,7 @@ no_code None None zone code e changed is = changed refl
 no_code None (Some after) zone code e changed is = cc
 no_code (Some other) made zone code e changed is = cc
 
-not_faulty : (zone : List Record) (message : List ℕ) (fault : UpdateFault) → TakenAt zone message → IsUpdateFault zone message fault → ⊥
+not_faulty : (zone : List Record) (message : Messages) (fault : UpdateFault) → TakenAt zone message → IsUpdateFault zone message fault → ⊥
 not_faulty zone message NotAnUpdate taken why = why taken.update taken.read
 not_faulty zone message (Refused code) taken why =
     let same : why.0 ≡ taken.update = read_one message why.0 taken.update why.1 taken.read in
@@ -156,7 +162,7 @@ not_faulty zone message ChangesNothing taken why =
     taken.shows.changed (ap (λ (made : Option (List Record)). unwrap_or made zone) (subst (λ (u : Update). act zone u ≡ Some zone) same why.3))
 
 -- messages of updates that are taken are all taken
-pub all_taken : (zone : List Record) (messages : List (List ℕ)) (updates : List Update) (place : ℕ) (fault : UpdateFault)
+pub all_taken : (zone : List Record) (messages : List Messages) (updates : List Update) (place : ℕ) (fault : UpdateFault)
     → AreRead messages updates → EachChanges zone updates → IsNotTaken zone messages place fault → ⊥
 all_taken zone messages updates place fault read taken other =
     let same : other.before ≡ take place updates = read_once (take place messages) other.before (take place updates) other.read (read_take place messages updates read) in

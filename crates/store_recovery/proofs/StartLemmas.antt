@@ -9,6 +9,7 @@ use Rattle.record_text.specs.declared.cause.Cause.TheVariants.{NoMemory as Wante
 use Rattle.master_file.specs.declared.fault.FileFault.{FileFault}
 use Rattle.master_file.specs.Fault.{no_memory}
 use Rattle.master_file.specs.ZoneText.{zone_of_text}
+use Rattle.journal.specs.Batch.{Messages}
 use Rattle.journal.specs.declared.heads.Head.{Head}
 use Rattle.journal.specs.declared.start.Refused.{Refused}
 use Rattle.journal.specs.declared.start.Refused.TheVariants.{BadHead, OtherText, Damaged, NoBatch, NoMemory as Starved}
@@ -33,7 +34,7 @@ drop_front octets front rest end spelt place =
     ap (λ (o : List ℕ). drop end o) spelt ∙ (ap (λ (n : ℕ). drop n (front ++ rest)) is_end ∙ drop-append_seam front rest)
 
 -- what is left is what stands behind
-rest_stands : (text octets : List ℕ) (head : Head) (messages : List (List ℕ)) (number end : ℕ) (torn : Bool) (found : IsRecovered text octets head messages number end torn)
+rest_stands : (text octets : List ℕ) (head : Head) (messages : List Messages) (number end : ℕ) (torn : Bool) (found : IsRecovered text octets head messages number end torn)
     → drop end octets ≡ found.rest
 rest_stands text octets head messages number end torn found =
     let frames : List ℕ = frames_of (salt_of head) 0 found.bodies in
@@ -50,7 +51,7 @@ ending_from octets end false false salt number e few tail =
     let other : end ≡ length octets → ⊥ = eqb-false end (length octets) e in
     (omega (arith, few, other), tail)
 
-pub ending_is : (text octets : List ℕ) (head : Head) (messages : List (List ℕ)) (number end : ℕ) (torn : Bool) → IsRecovered text octets head messages number end torn
+pub ending_is : (text octets : List ℕ) (head : Head) (messages : List Messages) (number end : ℕ) (torn : Bool) → IsRecovered text octets head messages number end torn
     → IsEnding octets end (ending_of torn end (length octets))
 ending_is text octets head messages number end torn found =
     ending_from octets end (eqb end (length octets)) torn (salt_of head) number refl (omega (arith, found.place))
@@ -64,23 +65,23 @@ journal_fault text octets (Damaged at) is = (is, λ e. cc)
 journal_fault text octets (NoBatch number) is = (is, λ e. cc)
 journal_fault text octets Starved is = tt
 
-pub sound_from : (text octets : List ℕ) (head : Head) (messages : List (List ℕ)) (number end : ℕ) (torn : Bool) → IsRecovered text octets head messages number end torn
+pub sound_from : (text octets : List ℕ) (head : Head) (messages : List Messages) (number end : ℕ) (torn : Bool) → IsRecovered text octets head messages number end torn
     → IsSound text octets head messages
 sound_from text octets head messages number end torn found = record { number = number; end = end; torn = torn; recovered = found }
 
 -- a text that is no zone is one
-fault_by : (text octets : List ℕ) (head : Head) (messages : List (List ℕ)) (why : FileFault) (cause : Cause) → why.cause ≡ cause → IsSound text octets head messages
+fault_by : (text octets : List ℕ) (head : Head) (messages : List Messages) (why : FileFault) (cause : Cause) → why.cause ≡ cause → IsSound text octets head messages
     → (why ≡ no_memory) ⊎ (zone_of_text [] text ≡ Err why) → IsStartFault text octets (of_cause why cause)
 fault_by text octets head messages why Wanted e sound is = tt
 fault_by text octets head messages why cause e sound (inr is) = (head, messages, sound, is)
 fault_by text octets head messages why cause e sound (inl memory) = let same = sym e ∙ ap (λ (f : FileFault). f.cause) memory in absurd cc
 
-pub text_fault : (text octets : List ℕ) (head : Head) (messages : List (List ℕ)) (why : FileFault) → IsSound text octets head messages
+pub text_fault : (text octets : List ℕ) (head : Head) (messages : List Messages) (why : FileFault) → IsSound text octets head messages
     → (why ≡ no_memory) ⊎ (zone_of_text [] text ≡ Err why) → IsStartFault text octets (of_text why)
 text_fault text octets head messages why sound is = fault_by text octets head messages why why.cause refl sound is
 
 -- and so is an update that isn't taken
-pub update_fault : (text octets : List ℕ) (head : Head) (zone : List Record) (messages : List (List ℕ)) (fault : StartFault) → IsSound text octets head messages
+pub update_fault : (text octets : List ℕ) (head : Head) (zone : List Record) (messages : List Messages) (fault : StartFault) → IsSound text octets head messages
     → zone_of_text [] text ≡ Ok zone → zone_serial zone ≡ head.serial → IsReplayFault zone messages fault → IsStartFault text octets fault
 update_fault text octets head zone messages (Journal why) sound is_zone serial is = absurd is
 update_fault text octets head zone messages (Text why) sound is_zone serial is = absurd is
@@ -90,7 +91,7 @@ update_fault text octets head zone messages (NotTaken place why) sound is_zone s
 update_fault text octets head zone messages NoMemory sound is_zone serial is = tt
 
 -- a start
-pub started_from : (text octets : List ℕ) (head : Head) (salt : List ℕ) (messages : List (List ℕ)) (number end : ℕ) (torn : Bool) (zone : List Record) (kept : RecentVersions) (ending : Ending) (len : ℕ)
+pub started_from : (text octets : List ℕ) (head : Head) (salt : List ℕ) (messages : List Messages) (number end : ℕ) (torn : Bool) (zone : List Record) (kept : RecentVersions) (ending : Ending) (len : ℕ)
     → salt ≡ salt_of head → IsRecovered text octets head messages number end torn → zone_of_text [] text ≡ Ok zone → zone_serial zone ≡ head.serial
     → IsReplayed zone messages kept → len ≡ length octets → ending ≡ ending_of torn end len
     → IsStarted text octets (record { head = head; salt = salt; number = number; end = end; ending = ending; newest = kept })

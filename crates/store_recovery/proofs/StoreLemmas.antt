@@ -10,7 +10,7 @@ use Rattle.master_file.specs.ZoneText.{zone_of_text}
 use Rattle.journal.specs.declared.heads.Head.{Head}
 use Rattle.journal.specs.declared.start.Refused.{Refused}
 use Rattle.journal.specs.declared.start.Refused.TheVariants.{BadHead, OtherText, Damaged, NoBatch, NoMemory as Starved}
-use Rattle.journal.specs.Batch.{batch_of, IsShort}
+use Rattle.journal.specs.Batch.{Messages, batch_of, IsRequest}
 use Rattle.journal.specs.Frame.{frames_of, Fit, NoFrame}
 use Rattle.journal.specs.Head.{head_of, salt_of, IsHead, IsText}
 use Rattle.journal.specs.Recovered.{journal_of, updates_in, IsRecovered, IsRefused}
@@ -37,16 +37,16 @@ no_zone : (text : Result (List Record) FileFault) (zone : List Record) (fault : 
 no_zone text zone fault one two = cc
 
 -- messages that are replayed on a zone, read as these updates
-replayed_as : (zone other : List Record) (messages reported : List (List ℕ)) (updates : List Update) (kept : RecentVersions) → zone ≡ other → reported ≡ messages → AreRead messages updates
+replayed_as : (zone other : List Record) (messages reported : List Messages) (updates : List Update) (kept : RecentVersions) → zone ≡ other → reported ≡ messages → AreRead messages updates
     → IsReplayed other reported kept → (kept.last.zone ≡ replay zone updates) × (kept.last.number ≡ length updates)
 replayed_as zone other messages reported updates kept same_zone same read is =
-    let others : is.updates ≡ updates = read_once messages is.updates updates (subst (λ (ms : List (List ℕ)). AreRead ms is.updates) same is.read) read in
+    let others : is.updates ≡ updates = read_once messages is.updates updates (subst (λ (ms : List Messages). AreRead ms is.updates) same is.read) read in
     let here : replay other is.updates ≡ replay zone updates =
     ap (λ (us : List Update). replay other us) others ∙ ap (λ (z : List Record). replay z updates) (sym same_zone) in
     (replayed_zone other reported kept is ∙ here, replayed_number other reported kept is ∙ (ap length same ∙ sym (read_long messages updates read)))
 
 -- a journal that nothing stands behind
-pub store_taken : (text : List ℕ) (head : Head) (batches : List (List (List ℕ))) (zone : List Record) (updates : List Update) (start : Recovery)
+pub store_taken : (text : List ℕ) (head : Head) (batches : List (List Messages)) (zone : List Record) (updates : List Update) (start : Recovery)
     → IsStore text head batches zone updates → IsStarted text (journal_of head batches) start
     → (start.newest.last.zone ≡ replay zone updates) × (start.newest.last.number ≡ length updates)
 store_taken text head batches zone updates start store is =
@@ -54,9 +54,9 @@ store_taken text head batches zone updates start store is =
     replayed_as zone is.zone (updates_in batches) is.messages updates start.newest (one_zone (zone_of_text [] text) zone is.zone store.is_zone is.is_zone) found.1 store.read is.replayed
 
 -- a fault of a start over messages that are taken is one of the journal, or want of memory
-faults_left : (text octets : List ℕ) (head : Head) (messages : List (List ℕ)) (zone : List Record) (updates : List Update) (fault : StartFault)
+faults_left : (text octets : List ℕ) (head : Head) (messages : List Messages) (zone : List Record) (updates : List Update) (fault : StartFault)
     → zone_of_text [] text ≡ Ok zone → zone_serial zone ≡ head.serial → AreRead messages updates → EachChanges zone updates
-    → ((other : Head) (reported : List (List ℕ)) → IsSound text octets other reported → (other ≡ head) × (reported ≡ messages))
+    → ((other : Head) (reported : List Messages) → IsSound text octets other reported → (other ≡ head) × (reported ≡ messages))
     → IsStartFault text octets fault → (fault ≡ NoMemory) ⊎ ((why : Refused) × (fault ≡ Journal why) × IsRefused text octets why × (why ≢ Starved))
 faults_left text octets head messages zone updates (Journal why) is_zone serial read taken sound is = inr (why, refl, is.0, is.1)
 faults_left text octets head messages zone updates (Text fault) is_zone serial read taken sound is = absurd (no_zone (zone_of_text [] text) zone fault is_zone is.3)
@@ -70,10 +70,10 @@ faults_left text octets head messages zone updates (NotTaken place fault) is_zon
     let same = sound pair.head is.1 pair.sound in
     let zones : is.0 ≡ zone = one_zone (zone_of_text [] text) is.0 zone pair.is_zone is_zone in
     let here : IsNotTaken zone is.1 place fault = subst (λ (z : List Record). IsNotTaken z is.1 place fault) zones is.3 in
-    absurd (all_taken zone messages updates place fault read taken (subst (λ (ms : List (List ℕ)). IsNotTaken zone ms place fault) same.1 here))
+    absurd (all_taken zone messages updates place fault read taken (subst (λ (ms : List Messages). IsNotTaken zone ms place fault) same.1 here))
 faults_left text octets head messages zone updates NoMemory is_zone serial read taken sound is = inl refl
 
-pub store_accepted : (text : List ℕ) (head : Head) (batches : List (List (List ℕ))) (zone : List Record) (updates : List Update) (fault : StartFault)
+pub store_accepted : (text : List ℕ) (head : Head) (batches : List (List Messages)) (zone : List Record) (updates : List Update) (fault : StartFault)
     → IsStore text head batches zone updates → IsStartFault text (journal_of head batches) fault → fault ≡ NoMemory
 store_accepted text head batches zone updates fault store is =
     by_left (faults_left text (journal_of head batches) head (updates_in batches) zone updates fault store.is_zone store.serial store.read store.taken
@@ -86,16 +86,16 @@ store_accepted text head batches zone updates fault store is =
     by_left (inr other) = absurd (other.3 (written_accepted text head batches other.0 store.is_head store.same_text store.fit store.short other.2))
 
 -- octets behind a journal
-pub synced_taken : (text left : List ℕ) (head : Head) (batches : List (List (List ℕ))) (zone : List Record) (updates : List Update) (start : Recovery)
+pub synced_taken : (text left : List ℕ) (head : Head) (batches : List (List Messages)) (zone : List Record) (updates : List Update) (start : Recovery)
     → IsStore text head batches zone updates → IsStarted text (journal_of head batches ++ left) start
     → (more : List Update) × EachChanges zone (updates ++ more) × (start.newest.last.zone ≡ replay zone (updates ++ more))
     × (start.newest.last.number ≡ length (updates ++ more))
 synced_taken text left head batches zone updates start store is =
     let found = synced_recovered text left head start.head batches is.messages start.number start.end is.torn store.is_head store.fit store.short is.recovered in
-    let first : List (List ℕ) = updates_in batches in
+    let first : List Messages = updates_in batches in
     let all : List Update = is.replayed.updates in
     let zones : is.zone ≡ zone = one_zone (zone_of_text [] text) is.zone zone is.is_zone store.is_zone in
-    let read : AreRead (first ++ found.0) all = subst (λ (ms : List (List ℕ)). AreRead ms all) found.2 is.replayed.read in
+    let read : AreRead (first ++ found.0) all = subst (λ (ms : List Messages). AreRead ms all) found.2 is.replayed.read in
     let more : List Update = drop (length first) all in
     let whole : all ≡ updates ++ more =
     sym (take-append-drop (length first) all) ∙ ap (λ (us : List Update). us ++ more) (sym (read_begins first found.0 updates all store.read read)) in
@@ -104,7 +104,7 @@ synced_taken text left head batches zone updates start store is =
     (more, subst (λ (us : List Update). EachChanges zone us) whole (subst (λ (z : List Record). EachChanges z all) zones is.replayed.taken), longer.0, longer.1)
 
 -- a journal that is cut: the messages that are left, and the updates that they are read as
-record Left (synced : List (List (List ℕ))) (messages : List (List ℕ)) (zone : List Record) (updates : List Update) : Type 0 where
+record Left (synced : List (List Messages)) (messages : List Messages) (zone : List Record) (updates : List Update) : Type 0 where
   k : ℕ
   least : length (updates_in synced) ≤ k
   most : k ≤ length updates
@@ -116,14 +116,14 @@ changes_take zero zone updates taken = tt
 changes_take (suc k) zone [] taken = tt
 changes_take (suc k) zone (update ∷ updates) taken = (taken.0, taken.1, changes_take k (unwrap_or (act zone update) zone) updates taken.2)
 
-left_of : (text : List ℕ) (head : Head) (synced later left gone : List (List (List ℕ))) (zone : List Record) (updates : List Update)
+left_of : (text : List ℕ) (head : Head) (synced later left gone : List (List Messages)) (zone : List Record) (updates : List Update)
     → IsStore text head (synced ++ later) zone updates → later ≡ left ++ gone → Left synced (updates_in (synced ++ left)) zone updates
 left_of text head synced later left gone zone updates store parts =
-    let messages : List (List ℕ) = updates_in (synced ++ left) in
+    let messages : List Messages = updates_in (synced ++ left) in
     let all : updates_in (synced ++ later) ≡ messages ++ updates_in gone =
-    ap (λ (bs : List (List (List ℕ))). updates_in (synced ++ bs)) parts
+    ap (λ (bs : List (List Messages)). updates_in (synced ++ bs)) parts
     ∙ (ap updates_in (sym (append_assoc synced left gone)) ∙ updates-append (synced ++ left) gone) in
-    let read : AreRead (messages ++ updates_in gone) updates = subst (λ (ms : List (List ℕ)). AreRead ms updates) all store.read in
+    let read : AreRead (messages ++ updates_in gone) updates = subst (λ (ms : List Messages). AreRead ms updates) all store.read in
     let few : length (updates_in synced) ≤ length messages =
     omega (arith, ap length (updates-append synced left), length-append (updates_in synced) (updates_in left)) in
     let most : length messages ≤ length updates =
@@ -137,17 +137,17 @@ left_of text head synced later left gone zone updates store parts =
     }
 
 -- the batches that are left are short
-left_short : (synced later left gone : List (List (List ℕ))) → All (All IsShort) (synced ++ later) → later ≡ left ++ gone → All (All IsShort) (synced ++ left)
+left_short : (synced later left gone : List (List Messages)) → All (All IsRequest) (synced ++ later) → later ≡ left ++ gone → All (All IsRequest) (synced ++ left)
 left_short synced later left gone short parts =
     short_first (synced ++ left) gone
-    (subst (λ (bs : List (List (List ℕ))). All (All IsShort) bs) (ap (λ (bs : List (List (List ℕ))). synced ++ bs) parts ∙ sym (append_assoc synced left gone)) short)
+    (subst (λ (bs : List (List Messages)). All (All IsRequest) bs) (ap (λ (bs : List (List Messages)). synced ++ bs) parts ∙ sym (append_assoc synced left gone)) short)
 
-pub cut_taken : (text : List ℕ) (head : Head) (synced later : List (List (List ℕ))) (zone : List Record) (updates : List Update) (n : ℕ) (start : Recovery)
+pub cut_taken : (text : List ℕ) (head : Head) (synced later : List (List Messages)) (zone : List Record) (updates : List Update) (n : ℕ) (start : Recovery)
     → IsStore text head (synced ++ later) zone updates → IsStarted text (take (length (journal_of head synced) + n) (journal_of head (synced ++ later))) start
     → (k : ℕ) × (length (updates_in synced) ≤ k) × (k ≤ length updates) × (start.newest.last.zone ≡ replay zone (take k updates)) × (start.newest.last.number ≡ k)
 cut_taken text head synced later zone updates n start store is =
     let cut = cut_is head synced later n store.fit in
-    let batches : List (List (List ℕ)) = synced ++ cut.left in
+    let batches : List (List Messages) = synced ++ cut.left in
     let left = left_of text head synced later cut.left cut.gone zone updates store cut.parts in
     let found = cut_recovered text cut.rest head start.head batches is.messages start.number start.end is.torn store.is_head cut.fit
     (left_short synced later cut.left cut.gone store.short cut.parts) cut.no_more
@@ -158,8 +158,8 @@ cut_taken text head synced later zone updates n start store is =
     (left.k, left.least, left.most, reported.0, reported.1 ∙ many)
 
 -- a refusal of what is left of a journal is damage
-refused_left : (text left : List ℕ) (head : Head) (batches : List (List (List ℕ))) (why : Refused) → IsHead head → IsText head.text text → Fit 0 (map batch_of batches)
-    → All (All IsShort) batches → NoFrame (salt_of head) (0 + length (map batch_of batches)) left → IsRefused text (journal_of head batches ++ left) why → why ≢ Starved
+refused_left : (text left : List ℕ) (head : Head) (batches : List (List Messages)) (why : Refused) → IsHead head → IsText head.text text → Fit 0 (map batch_of batches)
+    → All (All IsRequest) batches → NoFrame (salt_of head) (0 + length (map batch_of batches)) left → IsRefused text (journal_of head batches ++ left) why → why ≢ Starved
     → (at : ℕ) × (why ≡ Damaged at)
 refused_left text left head batches (BadHead fault) is same fit short none refused other =
     let behind : List ℕ = frames_of (salt_of head) 0 (map batch_of batches) in
@@ -175,22 +175,22 @@ refused_left text left head batches (NoBatch number) is same fit short none refu
     absurd (not_no_batch refused.bodies batches number short read.1 refused.no_batch)
 refused_left text left head batches Starved is same fit short none refused other = absurd (other refl)
 
-pub cut_accepted : (text : List ℕ) (head : Head) (synced later : List (List (List ℕ))) (zone : List Record) (updates : List Update) (n : ℕ) (fault : StartFault)
+pub cut_accepted : (text : List ℕ) (head : Head) (synced later : List (List Messages)) (zone : List Record) (updates : List Update) (n : ℕ) (fault : StartFault)
     → IsStore text head (synced ++ later) zone updates → IsStartFault text (take (length (journal_of head synced) + n) (journal_of head (synced ++ later))) fault
     → (fault ≡ NoMemory) ⊎ ((at : ℕ) × (fault ≡ Journal (Damaged at)))
 cut_accepted text head synced later zone updates n fault store is =
     let cut = cut_is head synced later n store.fit in
-    let batches : List (List (List ℕ)) = synced ++ cut.left in
+    let batches : List (List Messages) = synced ++ cut.left in
     let octets : List ℕ = journal_of head batches ++ cut.rest in
     let left = left_of text head synced later cut.left cut.gone zone updates store cut.parts in
     let short = left_short synced later cut.left cut.gone store.short cut.parts in
     let faults = faults_left text octets head (updates_in batches) zone (take left.k updates) fault store.is_zone store.serial left.read left.taken
-    (λ (other : Head) (reported : List (List ℕ)) (sound : IsSound text octets other reported).
+    (λ (other : Head) (reported : List Messages) (sound : IsSound text octets other reported).
     cut_recovered text cut.rest head other batches reported sound.number sound.end sound.torn store.is_head cut.fit short cut.no_more sound.recovered)
     (subst (λ (o : List ℕ). IsStartFault text o fault) cut.spelt is) in
     by_left cut.rest batches cut.fit short cut.no_more faults
   where
-    by_left : (rest : List ℕ) (batches : List (List (List ℕ))) → Fit 0 (map batch_of batches) → All (All IsShort) batches → NoFrame (salt_of head) (0 + length (map batch_of batches)) rest
+    by_left : (rest : List ℕ) (batches : List (List Messages)) → Fit 0 (map batch_of batches) → All (All IsRequest) batches → NoFrame (salt_of head) (0 + length (map batch_of batches)) rest
         → (fault ≡ NoMemory) ⊎ ((why : Refused) × (fault ≡ Journal why) × IsRefused text (journal_of head batches ++ rest) why × (why ≢ Starved))
         → (fault ≡ NoMemory) ⊎ ((at : ℕ) × (fault ≡ Journal (Damaged at)))
     by_left rest batches fit short none (inl memory) = inl memory

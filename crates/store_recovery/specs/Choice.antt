@@ -13,7 +13,7 @@ use Rattle.journal.specs.Head.{IsText}
 use Rattle.store_recovery.specs.declared.choices.Take.{Take}
 use Rattle.store_recovery.specs.declared.choices.Take.TheVariants.{Store as TheStore, Zone as TheZone}
 use Rattle.store_recovery.specs.declared.choices.Choice.{Choice}
-use Rattle.store_recovery.specs.declared.choices.Choice.TheVariants.{Same, Store, Zone, StoreThoughOther, RefuseNewer, RefuseNotNewer, RefuseOtherApex}
+use Rattle.store_recovery.specs.declared.choices.Choice.TheVariants.{Same, Store, Zone, StoreThoughOther, RefuseNewer, RefuseOtherApex}
 
 -- a text isn't the one with this length and SHA-256
 abbrev pub IsOther : TextSum → List ℕ → Type 0
@@ -38,17 +38,14 @@ IsUntaken begun last origin text taken serial greater =
 
 -- what is served, of a store that was created from a text and whose last version has this zone, and of a zone text. Nothing, where that text is a zone of another apex than
 -- the store's, whatever else it is, and whatever is chosen. Else the store, where the text is the one that it was created from; else the store, where it is chosen, and the
--- text's zone, where that is chosen and has a greater serial; where neither is chosen, the store, if the text's serial isn't greater. Else nothing is served: so never a text
--- whose serial isn't greater than the store's (RFC 1982, 3.2)
+-- store changed to the text's zone, where that is chosen; where neither is chosen, the store, if the text's serial isn't greater (RFC 1982, 3.2). Else nothing is served
 abbrev pub IsChoice : TextSum → List Record → Name → List ℕ → Option Take → Choice → Type 0
 IsChoice begun last origin text taken Same = IsText begun text × HasNoOtherApex last origin text
 IsChoice begun last origin text taken Store = IsOther begun text × (taken ≡ Some TheStore) × HasNoOtherApex last origin text
 IsChoice begun last origin text taken (Zone zone) = IsOther begun text × (taken ≡ Some TheZone) × (zone_of_text origin text ≡ Ok zone)
-    × (is_same (apex_of zone) (apex_of last) ≡ true) × (serial_less (zone_serial last) (zone_serial zone) ≡ true)
+    × (is_same (apex_of zone) (apex_of last) ≡ true)
 IsChoice begun last origin text taken (StoreThoughOther serial) = IsUntaken begun last origin text taken serial.0 false
 IsChoice begun last origin text taken (RefuseNewer serial) = IsUntaken begun last origin text taken serial.0 true
-IsChoice begun last origin text taken (RefuseNotNewer serial) =
-    IsOther begun text × (taken ≡ Some TheZone) × HasSerial last origin text serial.0 × (serial_less (zone_serial last) serial.0 ≡ false)
 IsChoice begun last origin text taken (RefuseOtherApex apex) = HasOtherApex last origin text apex
 
 -- why nothing is decided: there is no memory; or the text is no zone, the store was created from another one, and the store isn't chosen

@@ -9,21 +9,17 @@ use Rattle.zone_tree.specs.Version.{zone_serial}
 use Rattle.store_recovery.specs.declared.choices.Take.{Take}
 use Rattle.store_recovery.specs.declared.choices.Take.TheVariants.{Store as TheStore, Zone as TheZone}
 use Rattle.store_recovery.specs.declared.choices.Choice.{Choice}
-use Rattle.store_recovery.specs.declared.choices.Choice.TheVariants.{Same, Store, Zone, StoreThoughOther, RefuseNewer, RefuseNotNewer, RefuseOtherApex}
+use Rattle.store_recovery.specs.declared.choices.Choice.TheVariants.{Same, Store, Zone, StoreThoughOther, RefuseNewer, RefuseOtherApex}
 
 -- what is served where nothing is chosen, by the serial of the store's last version and that of another text's zone (RFC 1982, 3.2)
 abbrev pub by_serial : ℕ → Serial → Choice
 by_serial last given = if serial_less last given.0 then RefuseNewer given else StoreThoughOther given
 
--- what is served where a text is chosen, by the serial of the store's last version and the text's zone (RFC 1982, 3.2)
-abbrev pub taken_zone : ℕ → List Record → Choice
-taken_zone last zone = if serial_less last (zone_serial zone) then Zone zone else RefuseNotNewer (record { 0 = zone_serial zone })
-
 -- what is served, of a store and a text whose zones have the same apex, by whether the text is the one that the store was created from, and what is chosen
 abbrev pub of_one_apex : List Record → List Record → Bool → Option Take → Choice
 of_one_apex last zone true taken = Same
 of_one_apex last zone false (Some TheStore) = Store
-of_one_apex last zone false (Some TheZone) = taken_zone (zone_serial last) zone
+of_one_apex last zone false (Some TheZone) = Zone zone
 of_one_apex last zone false None = by_serial (zone_serial last) (record { 0 = zone_serial zone })
 
 -- the same of a store and a text whose zones may have different apexes

@@ -2,6 +2,7 @@
 use Rattle.std.specs.Prelude.{◌≡◌, ◌==◌, ℕ, List, Option, None, Some, if◌then◌else◌}
 use Rattle.dns_rdata.specs.Record.{Record}
 use Rattle.dns_message.specs.declared.update.Update.{Update}
+use Rattle.journal.specs.Batch.{Messages}
 use Rattle.journal.specs.declared.heads.Head.{Head}
 use Rattle.journal.specs.Recovered.{BeginsHead, journal_of}
 use Rattle.store_recovery.specs.Store.{IsStore}
@@ -12,7 +13,7 @@ pub record Folder : Type 0 where
   pub texts : ℕ → Option (List ℕ)
 
 -- a directory means a store: its journal has this head and these batches, and it has the zone text that the head names; its other files mean nothing
-pub record Means (folder : Folder) (head : Head) (batches : List (List (List ℕ))) (zone : List Record) (updates : List Update) : Type 0 where
+pub record Means (folder : Folder) (head : Head) (batches : List (List Messages)) (zone : List Record) (updates : List Update) : Type 0 where
   pub text : List ℕ
   pub journal : folder.journal ≡ Some (journal_of head batches)
   pub there : folder.texts head.number ≡ Some text

@@ -1,9 +1,9 @@
--- The versions that messages make of a zone, one after another, as an engine that applies them makes them (RFC 2136, 3).
+-- The versions that requests make of a zone, one after another, as an engine that applies them makes them (RFC 2136, 3).
+use Rattle.journal.specs.Batch.{Messages}
 use Rattle.std.specs.Prelude.{◌≡◌, ℕ, ◌+◌, true, List, [], ◌∷◌, take, slice_get, None, Some, unwrap_or, ⊤}
 use Rattle.dns_rdata.specs.Record.{Record}
-use Rattle.dns_message.specs.declared.query.Parsed.TheVariants.{Update as Asks}
 use Rattle.dns_message.specs.declared.update.Update.{Update}
-use Rattle.dns_message.specs.Request.{reads}
+use Rattle.update_messages.specs.Joined.{IsRead}
 use Rattle.zone_tree.specs.Zone.{soa_of}
 use Rattle.zone_tree.specs.Change.{left_out}
 use Rattle.zone_tree.specs.Version.{Version, Changes}
@@ -19,14 +19,10 @@ use Rattle.store_recovery.specs.declared.fault.UpdateFault.{UpdateFault}
 use Rattle.store_recovery.specs.declared.fault.UpdateFault.TheVariants.{NotAnUpdate, Refused, ChangesNothing}
 use Rattle.store_recovery.specs.declared.recent_versions.RecentVersions.{RecentVersions}
 
--- a message is read as this update (RFC 2136, 2)
-pub record IsRead (message : List ℕ) (update : Update) : Type 0 where
-  pub is : reads message ≡ Asks update
-
--- messages are read as these updates, in order
-abbrev pub AreRead : List (List ℕ) → List Update → Type 0
+-- requests are read as these updates, in order (RFC 2136, 2)
+abbrev pub AreRead : List Messages → List Update → Type 0
 AreRead [] [] = Unit {0}
-AreRead (message ∷ messages) (update ∷ updates) = IsRead message update × AreRead messages updates
+AreRead (request ∷ requests) (update ∷ updates) = IsRead request update × AreRead requests updates
 AreRead _ _ = ⊥
 
 -- the changes from a zone to the one after it (RFC 1995, 4)
@@ -54,38 +50,38 @@ abbrev pub held_from : Held → List Update → Held
 held_from held [] = held
 held_from held (update ∷ updates) = held_from (held_with held (version_by held.last update)) updates
 
--- a message makes the next version of a version
-pub record IsMade (version : Version) (message : List ℕ) (next : Version) : Type 0 where
+-- a request makes the next version of a version
+pub record IsMade (version : Version) (request : Messages) (next : Version) : Type 0 where
   pub update : Update
-  pub read : IsRead message update
+  pub read : IsRead request update
   pub makes : Makes update version next
 
--- messages are replayed on a zone: each is an update that is accepted and changes the zone after those before it, and the newest versions are those that an
+-- requests are replayed on a zone: each is an update that is accepted and changes the zone after those before it, and the newest versions are those that an
 -- engine of this zone holds after it has applied them
-pub record IsReplayed (zone : List Record) (messages : List (List ℕ)) (newest : RecentVersions) : Type 0 where
+pub record IsReplayed (zone : List Record) (requests : List Messages) (newest : RecentVersions) : Type 0 where
   pub updates : List Update
-  pub read : AreRead messages updates
+  pub read : AreRead requests updates
   pub taken : EachChanges zone updates
   pub last : newest.last ≡ (held_from (begun zone) updates).last
   pub older : newest.older.items ≡ (held_from (begun zone) updates).older
 
--- why a message makes no next version of a zone: it isn't read as an update; a rule or a limit gives the update this code; it is accepted, and changes nothing
-abbrev pub IsUpdateFault : List Record → List ℕ → UpdateFault → Type 0
-IsUpdateFault zone message NotAnUpdate = (update : Update) → IsRead message update → ⊥
-IsUpdateFault zone message (Refused code) = (update : Update) × IsRead message update × (code_of zone update true ≡ Some code)
-IsUpdateFault zone message ChangesNothing = (update : Update) × IsRead message update × (verdict zone update true ≡ None) × (act zone update ≡ Some zone)
+-- why a request makes no next version of a zone: it isn't read as an update; a rule or a limit gives the update this code; it is accepted, and changes nothing
+abbrev pub IsUpdateFault : List Record → Messages → UpdateFault → Type 0
+IsUpdateFault zone request NotAnUpdate = (update : Update) → IsRead request update → ⊥
+IsUpdateFault zone request (Refused code) = (update : Update) × IsRead request update × (code_of zone update true ≡ Some code)
+IsUpdateFault zone request ChangesNothing = (update : Update) × IsRead request update × (verdict zone update true ≡ None) × (act zone update ≡ Some zone)
 
--- the message at a place can't be applied, and those before it can
-pub record IsNotTaken (zone : List Record) (messages : List (List ℕ)) (place : ℕ) (fault : UpdateFault) : Type 0 where
+-- the request at a place can't be applied, and those before it can
+pub record IsNotTaken (zone : List Record) (requests : List Messages) (place : ℕ) (fault : UpdateFault) : Type 0 where
   pub before : List Update
-  pub read : AreRead (take place messages) before
+  pub read : AreRead (take place requests) before
   pub taken : EachChanges zone before
-  pub message : List ℕ
-  pub is_present : slice_get messages place ≡ Some message
-  pub why : IsUpdateFault (replay zone before) message fault
+  pub request : Messages
+  pub is_present : slice_get requests place ≡ Some request
+  pub why : IsUpdateFault (replay zone before) request fault
 
--- why messages aren't replayed on a zone
-abbrev pub IsReplayFault : List Record → List (List ℕ) → StartFault → Type 0
-IsReplayFault zone messages (NotTaken place fault) = IsNotTaken zone messages place fault
-IsReplayFault zone messages NoMemory = ⊤
-IsReplayFault zone messages _ = ⊥
+-- why requests aren't replayed on a zone
+abbrev pub IsReplayFault : List Record → List Messages → StartFault → Type 0
+IsReplayFault zone requests (NotTaken place fault) = IsNotTaken zone requests place fault
+IsReplayFault zone requests NoMemory = ⊤
+IsReplayFault zone requests _ = ⊥

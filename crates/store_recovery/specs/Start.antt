@@ -3,6 +3,7 @@ use Rattle.std.specs.Prelude.{◌≡◌, ◌≢◌, ℕ, ◌<◌, Bool, List, []
 use Rattle.dns_rdata.specs.Record.{Record}
 use Rattle.zone_tree.specs.Version.{zone_serial}
 use Rattle.master_file.specs.ZoneText.{zone_of_text}
+use Rattle.journal.specs.Batch.{Messages}
 use Rattle.journal.specs.declared.heads.Head.{Head}
 use Rattle.journal.specs.declared.start.Refused.TheVariants.{NoMemory as Starved}
 use Rattle.journal.specs.Head.{salt_of}
@@ -23,7 +24,7 @@ IsEnding octets end (Torn at) = (at ≡ end) × (IsBlank (drop end octets) → �
 
 -- a recovery: the journal is this text's, the text is a zone of the serial in the head, and the journal's updates are replayed on that zone
 pub record IsStarted (text octets : List ℕ) (start : Recovery) : Type 0 where
-  pub messages : List (List ℕ)
+  pub messages : List Messages
   pub zone : List Record
   pub torn : Bool
   pub recovered : IsRecovered text octets start.head messages start.number start.end torn
@@ -34,14 +35,14 @@ pub record IsStarted (text octets : List ℕ) (start : Recovery) : Type 0 where
   pub salt : start.salt ≡ salt_of start.head
 
 -- a journal is this text's, with this head and these messages
-pub record IsSound (text octets : List ℕ) (head : Head) (messages : List (List ℕ)) : Type 0 where
+pub record IsSound (text octets : List ℕ) (head : Head) (messages : List Messages) : Type 0 where
   pub number : ℕ
   pub end : ℕ
   pub torn : Bool
   pub recovered : IsRecovered text octets head messages number end torn
 
 -- a text that is a zone, and its journal, whose messages are to be replayed on it
-pub record IsPair (text octets : List ℕ) (zone : List Record) (messages : List (List ℕ)) : Type 0 where
+pub record IsPair (text octets : List ℕ) (zone : List Record) (messages : List Messages) : Type 0 where
   pub head : Head
   pub sound : IsSound text octets head messages
   pub is_zone : zone_of_text [] text ≡ Ok zone
@@ -51,8 +52,8 @@ pub record IsPair (text octets : List ℕ) (zone : List Record) (messages : List
 -- applied again
 abbrev pub IsStartFault : List ℕ → List ℕ → StartFault → Type 0
 IsStartFault text octets (Journal why) = IsRefused text octets why × (why ≢ Starved)
-IsStartFault text octets (Text fault) = (head : Head) × (messages : List (List ℕ)) × IsSound text octets head messages × (zone_of_text [] text ≡ Err fault)
-IsStartFault text octets OtherSerial = (head : Head) × (messages : List (List ℕ)) × (zone : List Record) × IsSound text octets head messages
+IsStartFault text octets (Text fault) = (head : Head) × (messages : List Messages) × IsSound text octets head messages × (zone_of_text [] text ≡ Err fault)
+IsStartFault text octets OtherSerial = (head : Head) × (messages : List Messages) × (zone : List Record) × IsSound text octets head messages
     × (zone_of_text [] text ≡ Ok zone) × (zone_serial zone ≢ head.serial)
-IsStartFault text octets (Update place fault) = (zone : List Record) × (messages : List (List ℕ)) × IsPair text octets zone messages × IsNotTaken zone messages place fault
+IsStartFault text octets (Update place fault) = (zone : List Record) × (messages : List Messages) × IsPair text octets zone messages × IsNotTaken zone messages place fault
 IsStartFault text octets NoMemory = ⊤

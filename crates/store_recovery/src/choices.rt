@@ -3,7 +3,7 @@ ghost use Rattle.std.specs.Prelude.{◌≡◌, ◌≢◌, ◌⊎◌, false, Some
 ghost use Rattle.master_file.specs.Fault.{no_memory};
 ghost use Rattle.store_recovery.specs.Choice.{IsChoice, IsChoiceFault};
 ghost use Rattle.store_recovery.specs.declared.choices.Take.TheVariants.{Store as TheStore};
-ghost use Rattle.store_recovery.specs.Choosing.{by_serial, taken_zone, of_zones, IsWithoutZone};
+ghost use Rattle.store_recovery.specs.Choosing.{by_serial, of_zones, IsWithoutZone};
 
 use dns_name::Name;
 use dns_rdata::Serial;
@@ -17,7 +17,7 @@ use zone_tree::{Zone, ZoneRead};
 pub enum Take {
     /// The store: of the text only its zone's apex is compared.
     Store,
-    /// The zone text, whose serial must be greater than the store's: a new store is created from it.
+    /// The zone text: the store, changed to its zone.
     Zone,
 }
 
@@ -28,22 +28,19 @@ pub enum Choice {
     Same,
     /// The store, which is chosen.
     Store,
-    /// The zone text, which is chosen: its zone.
+    /// The store, changed to the zone text, which is chosen: its zone.
     Zone(Zone),
     /// The store, though the zone text is another one: its zone has this serial, which isn't greater than that of the store's last version.
     StoreThoughOther(Serial),
     /// Neither, until one of them is chosen: the zone text is another one, and its zone has this serial, which is greater.
     RefuseNewer(Serial),
-    /// Neither: the zone text is chosen, and its zone has this serial, which isn't greater than that of the store's last version, so that secondaries would not
-    /// see the change (RFC 1982, 3.2; RFC 1996, 4.5).
-    RefuseNotNewer(Serial),
     /// Neither, whatever is chosen: the zone text is a zone of this apex, which differs from the store's.
     RefuseOtherApex(Name),
 }
 
 /// Decides which is served at a start: a store that was created from the text `begun` and whose last version has the zone `last`, or the zone text that the operator names,
-/// in which names are relative to the origin; `taken` is his choice of the two, if any. Apexes are compared as names are (RFC 4343, 3), and serials as in RFC 1982,
-/// 3.2. Where the text is the one that the store was created from, or the store is chosen, only its zone's apex is compared, if it is a zone.
+/// in which names are relative to the origin; `taken` is his choice of the two, if any. Apexes are compared as names are (RFC 4343, 3), and serials, where he has
+/// none, as in RFC 1982, 3.2. Where the text is the one that the store was created from, or the store is chosen, only its zone's apex is compared, if it is a zone.
 ///
 /// The fault is that of a text that is no zone, is another one than the store was created from, and is needed for the decision; or `NoMemory`, at line 0, where an
 /// allocation was refused.
@@ -79,7 +76,7 @@ fn of_zones(last: &Zone, zone: Zone, same: bool, taken: Option<Take>) -> Choice
     }
     match taken {
         Some(Take::Store) => Choice::Store,
-        Some(Take::Zone) => taken_zone(last.serial(), zone),
+        Some(Take::Zone) => Choice::Zone(zone),
         None => by_serial(last.serial(), zone.serial()),
     }
 }
@@ -98,18 +95,6 @@ fn without_zone(fault: FileFault, same: bool, taken: Option<Take>) -> Result<Cho
     match taken {
         Some(Take::Store) => Ok(Choice::Store),
         Some(Take::Zone) | None => Err(fault),
-    }
-}
-
-/// Which is served where a text with this zone is chosen: the zone, if its serial is greater than that of the store's last version (RFC 1982, 3.2).
-fn taken_zone(last: Serial, zone: Zone) -> Choice
-    ensures { result ≡ taken_zone last.0 zone }
-{
-    let given = zone.serial();
-    if last.less(given) {
-        Choice::Zone(zone)
-    } else {
-        Choice::RefuseNotNewer(given)
     }
 }
 

@@ -1,4 +1,5 @@
 //! The newest versions of a zone, as a cell begins with them (own).
+ghost use Rattle.journal.specs.Batch.{Messages};
 ghost use Rattle.std.specs.Prelude.{◌≡◌, ◌≤◌, ℕ, List, ◌∷◌, length};
 ghost use Rattle.dns_rdata.specs.Record.{Record};
 ghost use Rattle.dns_engine.specs.Versions.{IsFirst, AreNext};
@@ -14,7 +15,7 @@ impl RecentVersions {
     /// another after it, each with its changes and with numbers from 1 on. It allocates no memory.
     pub fn rebased(self) -> (Version, Vec<Version>)
         ensures same { result.0 ∷ result.1.items ≡ rebased (versions_in self) }
-        ensures made { (zone : List Record) (messages : List (List ℕ)) → IsReplayed zone messages self → IsFirst result.0.zone result.0 × AreNext result.0 result.1.items }
+        ensures made { (zone : List Record) (messages : List Messages) → IsReplayed zone messages self → IsFirst result.0.zone result.0 × AreNext result.0 result.1.items }
     {
         let (oldest, mut later) = oldest_first(self);
         number_all(&mut later);

@@ -60,7 +60,7 @@ pub fn start_of(
     found: &Recovered<'_>,
 ) -> Result<Recovery, StartFault>
     requires salt { found.now.salt ≡ salt_of found.now.head }
-    requires recovered { IsRecovered text.now journal.now found.now.head (map (λ update. update.now) found.now.updates.items) found.now.number found.now.end found.now.torn }
+    requires recovered { IsRecovered text.now journal.now found.now.head (map (λ request. map (λ message. message.now) request.items) found.now.updates.items) found.now.number found.now.end found.now.torn }
     ensures started { IfOk result (λ start. IsStarted text.now journal.now start) }
     ensures refused { IfErr result (λ fault. IsStartFault text.now journal.now fault) }
 {

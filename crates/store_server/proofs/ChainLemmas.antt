@@ -1,4 +1,5 @@
 -- Versions that updates make behind a version, one of the other.
+use Rattle.journal.specs.Batch.{Messages}
 use Rattle.std.proofs.Common.{◌≡◌, ℕ, zero, suc, ◌+◌, ◌≤◌, List, [], ◌∷◌, ◌++◌, length, take, drop, Some, unwrap_or, refl, sym, ap, ◌∙◌, append_assoc, append-nil, arith}
 use Rattle.dns_rdata.specs.Record.{Record}
 use Rattle.dns_message.specs.declared.update.Update.{Update}
@@ -54,7 +55,7 @@ renumbered version other number (update ∷ updates) zone at =
     (renumbered (version_by version update) (version_by other update) (number + 1) updates (ap after zone) (ap (λ (n : ℕ). n + 1) at))
 
 -- each is made by its update
-pub made_chain : (version : Version) (updates : List Update) (messages : List (List ℕ)) → AreRead messages updates → EachChanges version.zone updates
+pub made_chain : (version : Version) (updates : List Update) (messages : List Messages) → AreRead messages updates → EachChanges version.zone updates
     → AreMadeBy version (chain version updates) messages
 made_chain version [] [] read taken = tt
 made_chain version [] (message ∷ messages) read taken = absurd read

@@ -6,6 +6,7 @@ use Rattle.dns_message.specs.declared.update.Update.{Update}
 use Rattle.zone_tree.specs.Version.{Version}
 use Rattle.update_core.specs.Act.{replay}
 use Rattle.dns_engine.specs.Replayed.{EachChanges}
+use Rattle.journal.specs.Batch.{Messages}
 use Rattle.journal.specs.Recovered.{updates_in}
 use Rattle.journal.specs.Log.{disk_of}
 use Rattle.store_files.specs.declared.file.FileDisk.{FileDisk}
@@ -38,7 +39,7 @@ resumed_has first later writer writes =
     (subst (λ (v : Version). IsLast (first ∷ later) v) (sym writes.last) (last_more (first ∷ []) first later ([], refl)))
 
 module _ {L : Type 0} where
-  pub served_recovered : (zone : List Record) (old new : ThreadState (ServerStore (CompactedState IoError) L)) (stood : List (List ℕ))
+  pub served_recovered : (zone : List Record) (old new : ThreadState (ServerStore (CompactedState IoError) L)) (stood : List Messages)
       (kept : LoggedStore (CompactedState IoError) L)
       → (served : HasServed (HasIn HasUpdates) (LeavesIn Leaves) old new)
       → HasIn HasUpdates zone old.store old.published stood → new.store ≡ Store kept

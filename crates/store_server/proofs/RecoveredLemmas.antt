@@ -2,7 +2,7 @@
 use Rattle.std.proofs.Common.{◌≡◌, ℕ, Bool, List, ◌++◌, length, map, sym, ap, ◌∙◌, subst, append_assoc, length-append, arith}
 use Rattle.std.proofs.lemmas.List.{length-map}
 use Rattle.journal.specs.declared.heads.Head.{Head}
-use Rattle.journal.specs.Batch.{batch_of}
+use Rattle.journal.specs.Batch.{Messages, batch_of}
 use Rattle.journal.specs.Frame.{frames_of}
 use Rattle.journal.specs.Head.{head_of, salt_of}
 use Rattle.journal.specs.Recovered.{journal_of, updates_in, IsOpened, IsRecovered}
@@ -10,7 +10,7 @@ use Rattle.journal.proofs.FramesLemmas.{read_once}
 use Rattle.journal.proofs.RecoveredLemmas.{opened_read, same_batches}
 use Rattle.journal.specs.Log.{octets_of}
 
-module _ (text octets : List ℕ) (head : Head) (messages : List (List ℕ)) (number end : ℕ) (torn : Bool) (found : IsRecovered text octets head messages number end torn) where
+module _ (text octets : List ℕ) (head : Head) (messages : List Messages) (number end : ℕ) (torn : Bool) (found : IsRecovered text octets head messages number end torn) where
   -- a journal begins with the head and the frames of the bodies that are read
   pub begins_with : octets ≡ octets_of head found.bodies ++ found.rest
   begins_with =
@@ -26,7 +26,7 @@ module _ (text octets : List ℕ) (head : Head) (messages : List (List ℕ)) (nu
   counts = found.count ∙ (sym (length-map found.batches batch_of) ∙ ap length (sym found.are_batches.spelt))
 
   -- what is recovered again is the same
-  pub recovered_once : (other : Head) (others : List (List ℕ)) (n e : ℕ) (t : Bool) → IsRecovered text octets other others n e t → messages ≡ others
+  pub recovered_once : (other : Head) (others : List Messages) (n e : ℕ) (t : Bool) → IsRecovered text octets other others n e t → messages ≡ others
   recovered_once other others n e t again =
       let spelt : octets ≡ journal_of head found.batches ++ found.rest = begins_with ∙ ap (λ (b : List (List ℕ)). octets_of head b ++ found.rest) found.are_batches.spelt in
       let opened : IsOpened (journal_of head found.batches ++ found.rest) other again.bodies again.rest = subst (λ (o : List ℕ). IsOpened o other again.bodies again.rest) spelt again.opened in

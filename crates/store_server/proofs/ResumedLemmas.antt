@@ -1,9 +1,9 @@
 -- A store that a start has given, and who writes it.
-use Rattle.std.proofs.Common.{◌≡◌, ◌⊎◌, ℕ, zero, suc, ◌+◌, ◌-◌, ◌≤◌, List, [], ◌∷◌, ◌++◌, length, take, drop, map, Option, None, Some, inl, inr, refl, sym, ap, ◌∙◌, subst, append_assoc, length-append, arith}
+use Rattle.std.proofs.Common.{◌≡◌, ◌⊎◌, ℕ, zero, suc, ◌+◌, ◌-◌, ◌<◌, ◌≤◌, List, [], ◌∷◌, ◌++◌, length, take, drop, map, Option, None, Some, inl, inr, refl, sym, ap, ◌∙◌, subst, append_assoc, length-append, arith}
 use Rattle.std.specs.Prelude.{All, Bool, true, false, nat_lt, if◌then◌else◌}
 use Rattle.std.specs.declared.io.Error.{Error as IoError}
 use Rattle.std.proofs.lemmas.List.{length-map, length-drop, drop-drop}
-use Rattle.std.proofs.lemmas.List.Elements.{All-nil, All-head, All-tail, All-append, All-drop}
+use Rattle.std.proofs.lemmas.List.Elements.{All-nil, All-cons, All-append, All-drop}
 use Rattle.std.proofs.Math.Seq.{drop-append_seam}
 use Rattle.dns_rdata.specs.Record.{Record}
 use Rattle.dns_message.specs.declared.update.Update.{Update}
@@ -14,8 +14,8 @@ use Rattle.dns_engine.specs.Replayed.{EachChanges}
 use Rattle.update_batches.specs.Batch.{newest_of}
 use Rattle.update_batches.specs.Journal.{AreMadeBy}
 use Rattle.journal.specs.declared.heads.Head.{Head}
-use Rattle.journal.specs.Batch.{batch_of, IsShort}
-use Rattle.journal.specs.Frame.{Fit}
+use Rattle.journal.specs.Batch.{Messages, request_octets, batch_of}
+use Rattle.journal.specs.Frame.{Fit, body_limit}
 use Rattle.journal.specs.Recovered.{updates_in}
 use Rattle.journal.specs.declared.log.Log.{Log}
 use Rattle.journal.specs.Log.{Holds}
@@ -43,14 +43,14 @@ use Rattle.store_server.specs.Started.{GoesOn, IsCreatedStore}
 use Rattle.store_server.specs.Resumed.{IsGiven, WritesOn}
 use Rattle.store_server.proofs.ChainLemmas.{chain, chain_long, held_chain, Behind, behind, renumbered, made_chain, changes_behind}
 
--- the octets of a store's updates
-abbrev pub octets_in : OpenStore → List (List ℕ)
-octets_in store = map (λ update. update.items) store.updates.items
+-- the messages of a store's updates
+abbrev pub messages_in : OpenStore → List Messages
+messages_in store = store.updates.items
 
 -- what a store has on the disk, and that its versions are the last ones: they are made by its updates, which are those behind the first k
 pub record Has (store : OpenStore) : Type 0 where
   pub text : List ℕ
-  pub batches : List (List (List ℕ))
+  pub batches : List (List Messages)
   pub zone : List Record
   pub updates : List Update
   pub k : ℕ
@@ -58,13 +58,13 @@ pub record Has (store : OpenStore) : Type 0 where
   pub log : Holds written synced store.head store.log (map batch_of batches)
   pub within : k ≤ length updates
   pub oldest : store.first.zone ≡ replay zone (take k updates)
-  pub rest : octets_in store ≡ drop k (updates_in batches)
-  pub made : AreMadeBy store.first store.later.items (octets_in store)
+  pub rest : messages_in store ≡ drop k (updates_in batches)
+  pub made : AreMadeBy store.first store.later.items (messages_in store)
 
 -- of a store that is begun
 has_begun : (zone : List Record) (number : ℕ) (random given : List ℕ) (store : OpenStore) → IsCreatedStore zone number random given store → Has store
 has_begun zone number random given store begun =
-    let none : octets_in store ≡ [] = ap (map (λ update. update.items)) begun.updates in
+    let none : messages_in store ≡ [] = begun.updates in
     record {
       text = begun.new.text;
       batches = [];
@@ -76,7 +76,7 @@ has_begun zone number random given store begun =
       within = omega arith;
       oldest = ap (λ (v : Version). v.zone) begun.first;
       rest = none;
-      made = subst (λ (us : List (List ℕ)). AreMadeBy store.first store.later.items us) (sym none) (subst (λ (vs : List Version). AreMadeBy store.first vs []) (sym begun.later) tt);
+      made = subst (λ (us : List Messages). AreMadeBy store.first store.later.items us) (sym none) (subst (λ (vs : List Version). AreMadeBy store.first vs []) (sym begun.later) tt);
     }
 
 first_same : (x y : Version) (xs ys : List Version) → x ∷ xs ≡ y ∷ ys → x ≡ y
@@ -91,7 +91,7 @@ record Newest (zone : List Record) (updates : List Update) (first : Version) (la
   zone_is : first.zone ≡ replay zone (take b updates)
   later_is : later ≡ chain first (drop b updates)
 
-newest_is : (zone : List Record) (messages : List (List ℕ)) (start : Recovery) (is : IsReplayed zone messages start.newest) (first : Version) (later : List Version)
+newest_is : (zone : List Record) (messages : List Messages) (start : Recovery) (is : IsReplayed zone messages start.newest) (first : Version) (later : List Version)
     → first ∷ later ≡ rebased (newest_in start.newest) → Newest zone is.updates first later (length messages - length start.newest.older.items)
 newest_is zone messages start is first later versions =
     let us : List Update = is.updates in
@@ -124,12 +124,12 @@ newest_is zone messages start is first later versions =
 has_gone_on : (text octets : List ℕ) (start : Recovery) (store : OpenStore) → GoesOn text octets start store → Has store
 has_gone_on text octets start store on =
     let is : IsStarted text octets start = on.is in
-    let batches : List (List (List ℕ)) = is.recovered.batches in
+    let batches : List (List Messages) = is.recovered.batches in
     let bodies : is.recovered.bodies ≡ map batch_of batches = is.recovered.are_batches.spelt in
     let us : List Update = is.replayed.updates in
     let b : ℕ = length is.messages - length start.newest.older.items in
     let newest : Newest is.zone us store.first store.later.items b = newest_is is.zone is.messages start is.replayed store.first store.later.items on.versions in
-    let read : AreRead (updates_in batches) us = subst (λ (ms : List (List ℕ)). AreRead ms us) is.recovered.all is.replayed.read in
+    let read : AreRead (updates_in batches) us = subst (λ (ms : List Messages). AreRead ms us) is.recovered.all is.replayed.read in
     let is_store : IsStore text start.head batches is.zone us = record {
       is_head = is.recovered.opened.begins.is_head;
       same_text = is.recovered.same_text;
@@ -140,7 +140,7 @@ has_gone_on text octets start store on =
       read = read;
       taken = is.replayed.taken;
     } in
-    let rest : octets_in store ≡ drop b (updates_in batches) = on.updates ∙ ap (λ (ms : List (List ℕ)). drop b ms) is.recovered.all in
+    let rest : messages_in store ≡ drop b (updates_in batches) = on.updates ∙ ap (λ (ms : List Messages). drop b ms) is.recovered.all in
     let taken : EachChanges store.first.zone (drop b us) = subst (λ (z : List Record). EachChanges z (drop b us)) (sym newest.zone_is) (changes_behind b is.zone us is.replayed.taken) in
     let made : AreMadeBy store.first (chain store.first (drop b us)) (drop b (updates_in batches)) =
     made_chain store.first (drop b us) (drop b (updates_in batches)) (read_behind b (updates_in batches) us read) taken in
@@ -155,7 +155,7 @@ has_gone_on text octets start store on =
       within = newest.within;
       oldest = newest.zone_is;
       rest = rest;
-      made = subst (λ (ms : List (List ℕ)). AreMadeBy store.first store.later.items ms) (sym rest)
+      made = subst (λ (ms : List Messages). AreMadeBy store.first store.later.items ms) (sym rest)
           (subst (λ (vs : List Version). AreMadeBy store.first vs (drop b (updates_in batches))) (sym newest.later_is) made);
     }
 
@@ -163,34 +163,42 @@ pub has : (store : OpenStore) → IsGiven store → Has store
 has store (inl on) = has_gone_on on.0 on.1 on.2 store on.3
 has store (inr begun) = has_begun begun.0 begun.1 begun.2 begun.3 store begun.4
 
--- its updates are short, and as many as its versions behind the first one
-all_short : (batches : List (List (List ℕ))) → All (All IsShort) batches → All IsShort (updates_in batches)
-all_short [] short = All-nil IsShort
-all_short (batch ∷ batches) short =
-    All-append IsShort batch (updates_in batches) (All-head (All IsShort) batch batches short) (all_short batches (All-tail (All IsShort) batch batches short))
+-- its updates fit a batch each, and are as many as its versions after the first one
+IsFit : Messages → Type 0
+IsFit messages = length (request_octets messages) < body_limit
 
-pub has_short : (store : OpenStore) → IsGiven store → All IsShort (octets_in store)
-has_short store given =
+requests_fit : (requests : List Messages) → length (batch_of requests) < body_limit → All IsFit requests
+requests_fit [] short = All-nil IsFit
+requests_fit (request ∷ requests) short =
+    let long : length (batch_of (request ∷ requests)) ≡ length (request_octets request) + length (batch_of requests) = length-append (request_octets request) (batch_of requests) in
+    All-cons IsFit request requests (omega (arith, short, long)) (requests_fit requests (omega (arith, short, long)))
+
+all_fit : (batches : List (List Messages)) (number : ℕ) → Fit number (map batch_of batches) → All IsFit (updates_in batches)
+all_fit [] number fit = All-nil IsFit
+all_fit (batch ∷ batches) number fit = All-append IsFit batch (updates_in batches) (requests_fit batch fit.0) (all_fit batches (number + 1) fit.2)
+
+pub has_fit : (store : OpenStore) → IsGiven store → All (λ messages. length (request_octets messages) < body_limit) (messages_in store)
+has_fit store given =
     let h : Has store = has store given in
-    subst (All IsShort) (sym h.rest) (All-drop IsShort h.k (updates_in h.batches) (all_short h.batches h.is.short))
+    subst (All IsFit) (sym h.rest) (All-drop IsFit h.k (updates_in h.batches) (all_fit h.batches 0 h.is.fit))
 
-made_many : (first : Version) (versions : List Version) (messages : List (List ℕ)) → AreMadeBy first versions messages → length versions ≡ length messages
+made_many : (first : Version) (versions : List Version) (messages : List Messages) → AreMadeBy first versions messages → length versions ≡ length messages
 made_many first [] [] made = refl
 made_many first [] (message ∷ messages) made = absurd made
 made_many first (version ∷ versions) [] made = absurd made
 made_many first (version ∷ versions) (message ∷ messages) made = ap suc (made_many version versions messages made.1)
 
 pub has_many : (store : OpenStore) → IsGiven store → length store.later.items ≡ length store.updates.items
-has_many store given = made_many store.first store.later.items (octets_in store) (has store given).made ∙ length-map store.updates.items (λ update. update.items)
+has_many store given = made_many store.first store.later.items (messages_in store) (has store given).made
 
 -- the version behind steps that are let go
-record Moved (zone : List Record) (messages : List (List ℕ)) (updates : List Update) (after : TrailState) (k : ℕ) : Type 0 where
+record Moved (zone : List Record) (messages : List Messages) (updates : List Update) (after : TrailState) (k : ℕ) : Type 0 where
   n : ℕ
   within : k + n ≤ length updates
   oldest : after.oldest.zone ≡ replay zone (take (k + n) updates)
   rest : updates_of after.steps ≡ drop (k + n) messages
 
-moved : (zone : List Record) (messages : List (List ℕ)) (updates : List Update) (first : Version) (after : TrailState) (k : ℕ) (gone all : List VersionUpdate) → AreRead messages updates → k ≤ length updates
+moved : (zone : List Record) (messages : List Messages) (updates : List Update) (first : Version) (after : TrailState) (k : ℕ) (gone all : List VersionUpdate) → AreRead messages updates → k ≤ length updates
     → first.zone ≡ replay zone (take k updates) → updates_of all ≡ drop k messages → AreMadeBy first (versions_in all) (updates_of all) → all ≡ gone ++ after.steps
     → after.oldest ≡ newest_of first (versions_in gone) → Moved zone messages updates after k
 moved zone messages updates first after k gone all read within oldest rest made parts newest =
@@ -198,16 +206,16 @@ moved zone messages updates first after k gone all read within oldest rest made 
     let split : updates_of all ≡ updates_of gone ++ updates_of after.steps = ap updates_of parts ∙ updates_of-append gone after.steps in
     let versions : versions_in all ≡ versions_in gone ++ versions_in after.steps = ap versions_in parts ∙ versions-append gone after.steps in
     let both : AreMadeBy first (versions_in gone ++ versions_in after.steps) (updates_of gone ++ updates_of after.steps) =
-    subst (λ (us : List (List ℕ)). AreMadeBy first (versions_in gone ++ versions_in after.steps) us) split
+    subst (λ (us : List Messages). AreMadeBy first (versions_in gone ++ versions_in after.steps) us) split
     (subst (λ (vs : List Version). AreMadeBy first vs (updates_of all)) versions made) in
     let many : length (versions_in gone) ≡ length (updates_of gone) =
-    length-map gone (λ (s : VersionUpdate). s.version) ∙ sym (length-map gone (λ (s : VersionUpdate). s.octets.items)) in
+    length-map gone (λ (s : VersionUpdate). s.version) ∙ sym (length-map gone (λ (s : VersionUpdate). s.messages)) in
     let leads = made_leads first (versions_in gone) (updates_of gone)
     (made_first first (versions_in gone) (versions_in after.steps) (updates_of gone) (updates_of after.steps) many both) in
     let dropped : drop k messages ≡ updates_of gone ++ updates_of after.steps = sym rest ∙ split in
     let behind_them : AreRead (updates_of gone ++ updates_of after.steps) (drop k updates) =
-    subst (λ (ms : List (List ℕ)). AreRead ms (drop k updates)) dropped (read_behind k messages updates read) in
-    let is_n : length (updates_of gone) ≡ n = length-map gone (λ (s : VersionUpdate). s.octets.items) in
+    subst (λ (ms : List Messages). AreRead ms (drop k updates)) dropped (read_behind k messages updates read) in
+    let is_n : length (updates_of gone) ≡ n = length-map gone (λ (s : VersionUpdate). s.messages) in
     let front : AreRead (updates_of gone) (take n (drop k updates)) =
     subst (λ (m : ℕ). AreRead (updates_of gone) (take m (drop k updates))) is_n (read_first (updates_of gone) (updates_of after.steps) (drop k updates) behind_them) in
     let same : leads.updates ≡ take n (drop k updates) = read_once (updates_of gone) leads.updates (take n (drop k updates)) leads.read front in
@@ -219,11 +227,11 @@ moved zone messages updates first after k gone all read within oldest rest made 
           ∙ (leads.same ∙ (ap (λ (z : List Record). replay z leads.updates) oldest
           ∙ (ap (λ (us : List Update). replay (replay zone (take k updates)) us) same ∙ replay_parts zone updates k n)));
       rest = sym (drop-append_seam (updates_of gone) (updates_of after.steps))
-          ∙ (ap (λ (m : ℕ). drop m (updates_of gone ++ updates_of after.steps)) is_n ∙ (ap (λ (ms : List (List ℕ)). drop n ms) (sym dropped) ∙ drop-drop n k messages));
+          ∙ (ap (λ (m : ℕ). drop m (updates_of gone ++ updates_of after.steps)) is_n ∙ (ap (λ (ms : List Messages). drop n ms) (sym dropped) ∙ drop-drop n k messages));
     }
 
 -- who writes it, whose trail has followed its versions
-pub writes_on : (store : OpenStore) (keep : ℕ) (steps : List VersionUpdate) (writer : StoreWriter FileDisk IoError) → IsGiven store → versions_in steps ≡ store.later.items → updates_of steps ≡ octets_in store
+pub writes_on : (store : OpenStore) (keep : ℕ) (steps : List VersionUpdate) (writer : StoreWriter FileDisk IoError) → IsGiven store → versions_in steps ≡ store.later.items → updates_of steps ≡ messages_in store
     → trail_of writer ≡ followed (record { oldest = store.first; steps = []; keep = keep }) steps → log_of writer ≡ store.log → head_of writer ≡ store.head
     → WritesOn store.first store.later.items writer
 writes_on store keep steps writer given versions octets trail log head =
@@ -231,8 +239,8 @@ writes_on store keep steps writer given versions octets trail log head =
     let alone : TrailState = record { oldest = store.first; steps = []; keep = keep } in
     let after : TrailState = followed alone steps in
     let made : AreMadeBy store.first (versions_in steps) (updates_of steps) =
-    subst (λ (us : List (List ℕ)). AreMadeBy store.first (versions_in steps) us) (sym octets)
-    (subst (λ (vs : List Version). AreMadeBy store.first vs (octets_in store)) (sym versions) h.made) in
+    subst (λ (us : List Messages). AreMadeBy store.first (versions_in steps) us) (sym octets)
+    (subst (λ (vs : List Version). AreMadeBy store.first vs (messages_in store)) (sym versions) h.made) in
     let follows = followed_is alone steps tt made in
     let split = followed_split alone steps in
     let move : Moved h.zone (updates_in h.batches) h.updates after h.k =

@@ -9,12 +9,12 @@ use Rattle.store_recovery.specs.declared.choices.Choice.{Choice}
 use Rattle.store_recovery.specs.declared.choices.Choice.TheVariants.{Same as IsSame, Store as IsStore, Zone as IsZone, StoreThoughOther as IsOlder}
 use Rattle.store_recovery.specs.Choice.{IsChoice}
 use Rattle.store_server.specs.declared.refusal.Refusal.{Refusal}
-use Rattle.store_server.specs.declared.refusal.Refusal.TheVariants.{Held, NoJournal, NoText, NoStart, Newer, NotNewer, OtherApex, Text, NoMemory, Device}
+use Rattle.store_server.specs.declared.refusal.Refusal.TheVariants.{Held, NoJournal, NoText, NoStart, Newer, NoChange, TooLarge, OtherApex, Text, NoMemory, Device}
 use Rattle.store_server.specs.declared.resume.OpenStore.{OpenStore}
 use Rattle.store_server.specs.declared.start.Served.{Served}
 use Rattle.store_server.specs.declared.start.Served.TheVariants.{Created, Same, Store, StoreThoughOther, Zone}
 use Rattle.store_server.specs.declared.start.Started.{Started}
-use Rattle.store_server.specs.Started.{GoesOn, IsCreatedStore, IsChosen, IsServedBy, IsServedOf, IsServed, IsKept, IsOwnFault, IsRefused}
+use Rattle.store_server.specs.Started.{GoesOn, TakesOn, IsChosen, IsServedBy, IsServedOf, IsServed, IsKept, IsOwnFault, IsNotTaken, IsRefused}
 
 -- want of memory and a device's fault refuse a start
 pub own_refused : (given : List ℕ) (origin : Name) (taken : Option Take) (result : Result Started Refusal) → IfErr result IsOwnFault → IfErr result (λ refusal. IsRefused given origin taken refusal)
@@ -24,7 +24,8 @@ own_refused given origin taken (Err (NoJournal number)) own = absurd own
 own_refused given origin taken (Err (NoText number)) own = absurd own
 own_refused given origin taken (Err (NoStart fault)) own = absurd own
 own_refused given origin taken (Err (Newer has serial)) own = absurd own
-own_refused given origin taken (Err (NotNewer has serial)) own = absurd own
+own_refused given origin taken (Err (NoChange fault)) own = absurd own
+own_refused given origin taken (Err TooLarge) own = absurd own
 own_refused given origin taken (Err (OtherApex has other)) own = absurd own
 own_refused given origin taken (Err (Text fault)) own = absurd own
 own_refused given origin taken (Err NoMemory) own = tt
@@ -56,23 +57,39 @@ module _ (given : List ℕ) (origin : Name) (taken : Option Take) (random text o
   older_served serial is (Err refusal) goes same = tt
 
   -- the text is taken
-  kept_served : (served : Served) (store : OpenStore) (zone : List Record) (number : ℕ) → IsChosen given origin taken text octets (IsZone zone) → IsKept served → IsCreatedStore zone number random given store
-      → IsServedOf text octets given origin taken random store served
-  kept_served (Zone kept) store zone number is it begun = (zone, is, record { zone = zone; number = number; is_zone = is.chosen.2; begun = begun })
-  kept_served Created store zone number is it begun = absurd it
-  kept_served Same store zone number is it begun = absurd it
-  kept_served Store store zone number is it begun = absurd it
-  kept_served (StoreThoughOther serial) store zone number is it begun = absurd it
+  kept_served : (served : Served) (store : OpenStore) (zone : List Record) (is : IsChosen given origin taken text octets (IsZone zone)) → IsKept served
+      → TakesOn text octets is.start zone given random store → IsServedOf text octets given origin taken random store served
+  kept_served (Zone change) store zone is it takes = (zone, is, takes)
+  kept_served Created store zone is it takes = absurd it
+  kept_served Same store zone is it takes = absurd it
+  kept_served Store store zone is it takes = absurd it
+  kept_served (StoreThoughOther serial) store zone is it takes = absurd it
 
   pub zone_served : (zone : List Record) (is : IsChosen given origin taken text octets (IsZone zone)) (result : Result Started Refusal) → IfOk result (λ s. IsKept s.served)
-      → IfOk result (λ s. (number : ℕ) × IsCreatedStore zone number random given s.store) → IfOk result (λ s. IsServedOf text octets given origin taken random s.store s.served)
-  zone_served zone is (Ok started) it begun = kept_served started.served started.store zone begun.0 is it begun.1
-  zone_served zone is (Err refusal) it begun = tt
+      → IfOk result (λ s. TakesOn text octets is.start zone given random s.store) → IfOk result (λ s. IsServedOf text octets given origin taken random s.store s.served)
+  zone_served zone is (Ok started) it takes = kept_served started.served started.store zone is it takes
+  zone_served zone is (Err refusal) it takes = tt
+
+  -- or isn't taken
+  pub zone_refused : (zone : List Record) (is : IsChosen given origin taken text octets (IsZone zone)) (result : Result Started Refusal)
+      → IfErr result (λ refusal. IsNotTaken is.start.newest.last.zone zone refusal) → IfErr result (λ refusal. IsRefused given origin taken refusal)
+  zone_refused zone is (Ok started) none = tt
+  zone_refused zone is (Err Held) none = absurd none
+  zone_refused zone is (Err (NoJournal number)) none = absurd none
+  zone_refused zone is (Err (NoText number)) none = absurd none
+  zone_refused zone is (Err (NoStart fault)) none = absurd none
+  zone_refused zone is (Err (Newer has serial)) none = absurd none
+  zone_refused zone is (Err (NoChange fault)) none = (text, octets, zone, is, none)
+  zone_refused zone is (Err TooLarge) none = (text, octets, zone, is)
+  zone_refused zone is (Err (OtherApex has other)) none = absurd none
+  zone_refused zone is (Err (Text fault)) none = absurd none
+  zone_refused zone is (Err NoMemory) none = tt
+  zone_refused zone is (Err (Device fault)) none = tt
 
   -- so what is served is what is chosen of some store
   served_of : (store : OpenStore) (served : Served) → IsServedOf text octets given origin taken random store served → IsServedBy given origin taken random store served
   served_of store Created is = absurd is
-  served_of store (Zone kept) is = (text, octets, is.0, is.1, is.2)
+  served_of store (Zone change) is = (text, octets, is.0, is.1, is.2)
   served_of store Same is = (text, octets, is.0, is.1)
   served_of store Store is = (text, octets, is.0, is.1)
   served_of store (StoreThoughOther serial) is = (text, octets, is.0, is.1)

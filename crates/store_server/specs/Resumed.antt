@@ -1,4 +1,5 @@
 -- A store that a server has open, and its writer (own).
+use Rattle.journal.specs.Batch.{Messages}
 use Rattle.std.specs.Prelude.{◌≡◌, ◌⊎◌, ℕ, List, None}
 use Rattle.std.specs.declared.io.Error.{Error as IoError}
 use Rattle.dns_rdata.specs.Record.{Record}
@@ -23,7 +24,7 @@ IsGiven store = ((text : List ℕ) × (octets : List ℕ) × (start : Recovery) 
 -- the writer of a store: its state holds, with no next zone file, and its recent updates end at the last of these versions
 pub record WritesOn (first : Version) (later : List Version) (writer : StoreWriter FileDisk IoError) : Type 0 where
   pub text : List ℕ
-  pub batches : List (List (List ℕ))
+  pub batches : List (List Messages)
   pub zone : List Record
   pub updates : List Update
   pub k : ℕ

@@ -1,11 +1,12 @@
 -- What a server begins with (own).
-use Rattle.std.specs.Prelude.{◌≡◌, ◌-◌, ◌∷◌, ⊤, ℕ, List, [], Option, Ok, Err, length, map, drop}
+use Rattle.std.specs.Prelude.{◌≡◌, ◌-◌, ◌∷◌, ⊤, ℕ, List, [], Option, Ok, Err, length, drop}
 use Rattle.dns_name.specs.Name.{Name}
 use Rattle.dns_rdata.specs.Record.{Record}
 use Rattle.zone_tree.specs.Zone.{apex_of}
 use Rattle.zone_tree.specs.Version.{zone_serial}
 use Rattle.dns_engine.specs.Versions.{IsFirst, AreNext}
 use Rattle.master_file.specs.ZoneText.{zone_of_text}
+use Rattle.journal.specs.Batch.{Messages}
 use Rattle.journal.specs.declared.heads.Head.{Head}
 use Rattle.journal.specs.declared.heads.TextSum.{TextSum}
 use Rattle.journal.specs.Head.{IsText}
@@ -21,11 +22,14 @@ use Rattle.store_files.specs.declared.open.OpenedFolder.{OpenedFolder}
 use Rattle.store_files.specs.declared.open.OpenedFolder.TheVariants.{Empty, Found}
 use Rattle.store_recovery.specs.declared.choices.Take.{Take}
 use Rattle.store_recovery.specs.declared.choices.Choice.{Choice}
-use Rattle.store_recovery.specs.declared.choices.Choice.TheVariants.{Same as IsSame, Store as IsStore, Zone as IsZone, StoreThoughOther as IsOlder, RefuseNewer, RefuseNotNewer, RefuseOtherApex}
+use Rattle.store_recovery.specs.declared.choices.Choice.TheVariants.{Same as IsSame, Store as IsStore, Zone as IsZone, StoreThoughOther as IsOlder, RefuseNewer, RefuseOtherApex}
 use Rattle.store_recovery.specs.Created.{IsCreated}
 use Rattle.store_recovery.specs.Choice.{IsChoice}
 use Rattle.store_server.specs.declared.refusal.Refusal.{Refusal}
-use Rattle.store_server.specs.declared.refusal.Refusal.TheVariants.{Held, NoJournal, NoText, NoStart, Newer, NotNewer, OtherApex, Text, NoMemory, Device}
+use Rattle.store_server.specs.declared.refusal.Refusal.TheVariants.{Held, NoJournal, NoText, NoStart, Newer, NoChange, TooLarge, OtherApex, Text, NoMemory, Device}
+use Rattle.zone_change.specs.declared.fault.ChangeFault.TheVariants.{NoRoom}
+use Rattle.zone_change.specs.Change.{HasRoom}
+use Rattle.store_server.specs.Taken.{IsTakenJournal}
 use Rattle.store_server.specs.declared.resume.OpenStore.{OpenStore}
 use Rattle.store_server.specs.declared.start.Served.{Served}
 use Rattle.store_server.specs.declared.start.Served.TheVariants.{Created, Same, Store, StoreThoughOther, Zone}
@@ -39,10 +43,10 @@ pub record IsNewStore {F : Type 0} (zone : List Record) (number : ℕ) (random g
   pub from : IsText origin given
   pub empty : Holds written synced head log []
 
--- updates are the last `count` ones of a zone file's journal, as they were received
-pub record AreLastUpdates (text octets : List ℕ) (count : ℕ) (updates : List (List ℕ)) : Type 0 where
+-- updates are the last `count` ones of a zone file's journal, each as the messages of its request
+pub record AreLastUpdates (text octets : List ℕ) (count : ℕ) (updates : List Messages) : Type 0 where
   pub head : Head
-  pub all : List (List ℕ)
+  pub all : List Messages
   pub sound : IsSound text octets head all
   pub last : updates ≡ drop (length all - count) all
 
@@ -54,7 +58,7 @@ pub record GoesOn (text octets : List ℕ) (start : Recovery) (store : OpenStore
   pub log : Holds written synced store.head store.log is.recovered.bodies
   pub versions : store.first ∷ store.later.items ≡ rebased (versions_in start.newest)
   pub made : IsFirst store.first.zone store.first × AreNext store.first store.later.items
-  pub updates : map (λ update. update.items) store.updates.items ≡ drop (length is.messages - length start.newest.older.items) is.messages
+  pub updates : store.updates.items ≡ drop (length is.messages - length start.newest.older.items) is.messages
 
 -- a store is created with a zone, whose text was given: only its first version is served
 pub record IsCreatedStore (zone : List Record) (number : ℕ) (random given : List ℕ) (store : OpenStore) : Type 0 where
@@ -70,7 +74,14 @@ pub record IsCreatedWith (given : List ℕ) (origin : Name) (random : List ℕ) 
   pub is_zone : zone_of_text origin given ≡ Ok zone
   pub begun : IsCreatedStore zone number random given store
 
--- a directory's store is chosen, or the zone file in its place, by the zone of the store's last version
+-- a store is changed to a zone: it goes on from its zone file and the journal that the change gives it
+pub record TakesOn (text journal : List ℕ) (start : Recovery) (zone : List Record) (given random : List ℕ) (store : OpenStore) : Type 0 where
+  pub octets : List ℕ
+  pub is_journal : IsTakenJournal journal start zone given random octets
+  pub later : Recovery
+  pub goes_on : GoesOn text octets later store
+
+-- a directory's store is chosen, or to be changed to the zone file, by the zone of the store's last version
 pub record IsChosen (given : List ℕ) (origin : Name) (taken : Option Take) (text octets : List ℕ) (choice : Choice) : Type 0 where
   pub start : Recovery
   pub is : IsStarted text octets start
@@ -79,7 +90,8 @@ pub record IsChosen (given : List ℕ) (origin : Name) (taken : Option Take) (te
 -- which is served, and the open store
 abbrev pub IsServedBy : List ℕ → Name → Option Take → List ℕ → OpenStore → Served → Type 0
 IsServedBy given origin taken random store Created = IsCreatedWith given origin random store
-IsServedBy given origin taken random store (Zone kept) = (text : List ℕ) × (octets : List ℕ) × (zone : List Record) × IsChosen given origin taken text octets (IsZone zone) × IsCreatedWith given origin random store
+IsServedBy given origin taken random store (Zone change) =
+    (text : List ℕ) × (octets : List ℕ) × (zone : List Record) × (is : IsChosen given origin taken text octets (IsZone zone)) × TakesOn text octets is.start zone given random store
 IsServedBy given origin taken random store Same = (text : List ℕ) × (octets : List ℕ) × (is : IsChosen given origin taken text octets IsSame) × GoesOn text octets is.start store
 IsServedBy given origin taken random store Store = (text : List ℕ) × (octets : List ℕ) × (is : IsChosen given origin taken text octets IsStore) × GoesOn text octets is.start store
 IsServedBy given origin taken random store (StoreThoughOther serial) =
@@ -88,9 +100,9 @@ IsServedBy given origin taken random store (StoreThoughOther serial) =
 abbrev pub IsServed : List ℕ → Name → Option Take → List ℕ → Started → Type 0
 IsServed given origin taken random started = IsServedBy given origin taken random started.store started.served
 
--- the zone file that the operator chose is served, and the previous store is kept
+-- the store is served, changed to the zone file that the operator chose
 abbrev pub IsKept : Served → Type 0
-IsKept (Zone kept) = ⊤
+IsKept (Zone change) = ⊤
 IsKept _ = ⊥
 
 -- the zone file is served since there was no store
@@ -101,12 +113,13 @@ IsCreatedAnew _ = ⊥
 -- which is served of a store that was found, with its zone file and its journal, and the open store: the zone file is never served as if there were no store
 abbrev pub IsServedOf : List ℕ → List ℕ → List ℕ → Name → Option Take → List ℕ → OpenStore → Served → Type 0
 IsServedOf text octets given origin taken random store Created = ⊥
-IsServedOf text octets given origin taken random store (Zone kept) = (zone : List Record) × IsChosen given origin taken text octets (IsZone zone) × IsCreatedWith given origin random store
+IsServedOf text octets given origin taken random store (Zone change) =
+    (zone : List Record) × (is : IsChosen given origin taken text octets (IsZone zone)) × TakesOn text octets is.start zone given random store
 IsServedOf text octets given origin taken random store Same = (is : IsChosen given origin taken text octets IsSame) × GoesOn text octets is.start store
 IsServedOf text octets given origin taken random store Store = (is : IsChosen given origin taken text octets IsStore) × GoesOn text octets is.start store
 IsServedOf text octets given origin taken random store (StoreThoughOther serial) = (is : IsChosen given origin taken text octets (IsOlder serial)) × GoesOn text octets is.start store
 
--- what is served is that of the directory: the zone file alone only if there is no store, else the store that was found, or the zone file that was chosen in its place
+-- what is served is that of the directory: the zone file alone only if there is no store, else the store that was found, changed to the zone file where that was chosen
 abbrev pub IsOfFolder : List ℕ → Name → Option Take → List ℕ → OpenedFolder → Started → Type 0
 IsOfFolder given origin taken random (Empty lock) started = IsCreatedAnew started.served
 IsOfFolder given origin taken random (Found lock pair) started = IsServedOf pair.text.items pair.journal.items given origin taken random started.store started.served
@@ -117,6 +130,12 @@ abbrev pub IsOwnFault : Refusal → Type 0
 IsOwnFault NoMemory = ⊤
 IsOwnFault (Device fault) = ⊤
 IsOwnFault _ = ⊥
+
+-- or no update takes the store's zone to that of the zone file, or the update has more octets than a frame takes
+abbrev pub IsNotTaken : List Record → List Record → Refusal → Type 0
+IsNotTaken last zone (NoChange fault) = (fault ≡ NoRoom) × (HasRoom last zone → ⊥)
+IsNotTaken last zone TooLarge = ⊤
+IsNotTaken last zone refusal = IsOwnFault refusal
 
 -- or a zone file and a journal from which no store can be recovered
 abbrev pub IsNoStore : List ℕ → List ℕ → Refusal → Type 0
@@ -136,8 +155,9 @@ IsRefused given origin taken (NoText number) = ⊤
 IsRefused given origin taken (NoStart fault) = (text : List ℕ) × (octets : List ℕ) × IsStartFault text octets fault
 IsRefused given origin taken (Newer has serial) =
     (text : List ℕ) × (octets : List ℕ) × (is : IsChosen given origin taken text octets (RefuseNewer serial)) × (has.0 ≡ zone_serial is.start.newest.last.zone)
-IsRefused given origin taken (NotNewer has serial) =
-    (text : List ℕ) × (octets : List ℕ) × (is : IsChosen given origin taken text octets (RefuseNotNewer serial)) × (has.0 ≡ zone_serial is.start.newest.last.zone)
+IsRefused given origin taken (NoChange fault) =
+    (text : List ℕ) × (octets : List ℕ) × (zone : List Record) × (is : IsChosen given origin taken text octets (IsZone zone)) × IsNotTaken is.start.newest.last.zone zone (NoChange fault)
+IsRefused given origin taken TooLarge = (text : List ℕ) × (octets : List ℕ) × (zone : List Record) × IsChosen given origin taken text octets (IsZone zone)
 IsRefused given origin taken (OtherApex has other) =
     (text : List ℕ) × (octets : List ℕ) × (is : IsChosen given origin taken text octets (RefuseOtherApex other)) × (has ≡ apex_of is.start.newest.last.zone)
 IsRefused given origin taken (Text fault) = zone_of_text origin given ≡ Err fault

@@ -11,7 +11,7 @@ use crate::resume::OpenStore;
 use journal::{Head, Log, SUM, TextSum, write_head};
 use std::alloc::Global;
 use std::fs::{File, Files};
-use store_files::{FIRST_TEXT, FileDisk, KeptPair, begin_pair, write_pair};
+use store_files::{FIRST_TEXT, FileDisk, begin_pair};
 use store_recovery::create_store;
 use zone_tree::{Version, Zone};
 
@@ -31,28 +31,6 @@ pub(crate) fn create_first<R: Files<File = File>>(
     let (text, head) = create_store(alloc, &zone, FIRST_TEXT, random, TextSum::of(given))?;
     let (octets, salt) = write_head(alloc, &head)?;
     let disk = begin_pair(rt, alloc, dir, text.as_bytes(), &octets)?;
-    let log = empty_log(&head, &salt, &octets, disk)?;
-    Ok(new_store(alloc, zone, head, log))
-}
-
-/// Creates a store with a zone in place of a directory's store, which is kept already: its zone file of this number, which no journal names yet, and a journal without batches.
-/// `random` are bytes unknown to anyone else, and `given` is the text that the zone was read from. It allocates memory.
-pub(crate) fn create_over<R: Files<File = File>>(
-    rt: &R,
-    alloc: Global,
-    dir: &str,
-    _kept: &KeptPair,
-    zone: Zone,
-    number: u64,
-    random: [u8; 16],
-    given: &[u8],
-) -> Result<OpenStore, Refusal>
-    ensures begun { IfOk result (λ store. IsCreatedStore zone number random given.now store) }
-    ensures refused { IfErr result IsOwnFault }
-{
-    let (text, head) = create_store(alloc, &zone, number, random, TextSum::of(given))?;
-    let (octets, salt) = write_head(alloc, &head)?;
-    let disk = write_pair(rt, alloc, dir, number, text.as_bytes(), &octets)?;
     let log = empty_log(&head, &salt, &octets, disk)?;
     Ok(new_store(alloc, zone, head, log))
 }

@@ -6,6 +6,7 @@ ghost use Rattle.dns_message.specs.declared.update.Update.{Update};
 ghost use Rattle.zone_tree.specs.Version.{Version};
 ghost use Rattle.update_core.specs.Act.{replay};
 ghost use Rattle.dns_engine.specs.Replayed.{EachChanges};
+ghost use Rattle.journal.specs.Batch.{Messages};
 ghost use Rattle.journal.specs.Recovered.{updates_in};
 ghost use Rattle.journal.specs.Log.{disk_of};
 ghost use Rattle.store_files.specs.declared.file.FileDisk.{FileDisk};
@@ -38,12 +39,12 @@ pub fn resumed_store_has_its_updates()
 /// to which the reply was SERVFAIL, or there is no reply yet. A crash at any moment during a call on the store leaves first the updates that the
 /// store had when the call began.
 pub fn served_updates_are_recovered<L>()
-    ensures recovered { (zone : List Record) (old new : ThreadState (ServerStore (CompactedState IoError) L)) (stood : List (List ℕ)) (kept : LoggedStore (CompactedState IoError) L)
+    ensures recovered { (zone : List Record) (old new : ThreadState (ServerStore (CompactedState IoError) L)) (stood : List Messages) (kept : LoggedStore (CompactedState IoError) L)
         → (served : HasServed (HasIn HasUpdates) (LeavesIn Leaves) old new)
         → HasIn HasUpdates zone old.store old.published stood → new.store ≡ Store kept
         → (has : HasUpdates zone kept.store new.published (stood ++ served.updates)) × ((left : List ℕ) (start : Recovery) → IsStarted has.text (synced (disk_of (log_of kept.store.writer)) ++ left) start
         → (all : List Update) × (more : List Update) × AreRead (stood ++ served.updates) all × EachChanges zone (all ++ more) × (start.newest.last.zone ≡ replay zone (all ++ more))) }
-    ensures crash { (zone : List Record) (old new : ThreadState (ServerStore (CompactedState IoError) L)) (stood : List (List ℕ))
+    ensures crash { (zone : List Record) (old new : ThreadState (ServerStore (CompactedState IoError) L)) (stood : List Messages)
         → (served : HasServed (HasIn HasUpdates) (LeavesIn Leaves) old new)
         → HasIn HasUpdates zone old.store old.published stood
         → IsCrashSafe (HasIn HasUpdates) (LeavesIn Leaves) zone old.store stood new.store new.published (stood ++ served.updates) }

@@ -2,7 +2,7 @@
 //!
 //! [`start_store`] locks the store's directory and gives the zone to serve. A directory without a journal gets a new store from the operator's zone file. Otherwise the zone is
 //! that of the store with its journal's updates replayed, if the zone file is the one that the store was created from, or is not newer, or the operator chose the store. If the
-//! operator chose a changed zone file, the store is created again from it, and the previous store is kept beside it. A torn end of the journal is copied to a file of its own
+//! operator chose a changed zone file, it is that of the store changed to the zone file, by an update that its journal then has. A torn end of the journal is copied to a file of its own
 //! before it is cut off. Nothing is changed if nothing is served.
 //!
 //! [`resume_store`] gives the versions that a server begins with, and the store's writer, which has the same versions with the updates that made them. A [`ServerStore`] writes
@@ -23,6 +23,7 @@ mod resume;
 mod resumed;
 mod served;
 mod start;
+mod taken;
 mod updates;
 
 pub use event::{StoreEvent, StoreLog};
@@ -33,3 +34,4 @@ pub use resume::{OpenStore, resume_pair};
 pub use resumed::resume_store;
 pub use served::{LoggedStore, NotStored, ServerStore};
 pub use start::{Given, Served, Started, start_store};
+pub use taken::TakenZone;

@@ -6,6 +6,7 @@ use std::alloc::AllocError;
 use std::io;
 use store_files::PairFault;
 use store_recovery::StartFault;
+use zone_change::ChangeFault;
 
 /// A reason why a store is not served. Except after a device's fault, the directory is unchanged.
 #[derive(Debug, Drop)]
@@ -25,13 +26,10 @@ pub enum Refusal {
         /// The serial of the operator's zone file.
         given: Serial,
     },
-    /// The operator chose the zone file, which has changed since the store was created, but the serial of its zone is not greater (RFC 1982, 3.2).
-    NotNewer {
-        /// The serial of the store's last version.
-        has: Serial,
-        /// The serial of the operator's zone file.
-        given: Serial,
-    },
+    /// The operator chose the zone file, and no update takes the store's zone to its zone.
+    NoChange(ChangeFault),
+    /// The operator chose the zone file, and the update that takes the store's zone to its zone has more octets than a frame of a journal takes.
+    TooLarge,
     /// The operator's zone file has a zone with another apex than the store's, whichever the operator chose.
     OtherApex {
         /// The apex of the store's zone.

@@ -1,8 +1,9 @@
 //! What a server begins with from an open store (own).
-ghost use Rattle.std.specs.Prelude.{◌≡◌, List, [], length, min, map, All, IfOk};
+ghost use Rattle.std.specs.Prelude.{◌≡◌, ◌<◌, List, [], length, min, All, IfOk};
 ghost use Rattle.dns_engine.specs.Held.{KEPT};
 ghost use Rattle.dns_engine.specs.Versions.{IsFirst, AreNext};
-ghost use Rattle.journal.specs.Batch.{IsShort};
+ghost use Rattle.journal.specs.Batch.{request_octets};
+ghost use Rattle.journal.specs.Frame.{body_limit};
 ghost use Rattle.update_batches.specs.declared.version_update.VersionUpdate.{VersionUpdate};
 ghost use Rattle.store_compaction.specs.RecentUpdates.{followed};
 ghost use Rattle.update_batches.specs.Batch.{versions_in, updates_of};
@@ -11,6 +12,7 @@ ghost use Rattle.store_server.specs.Resumed.{IsGiven, WritesOn};
 
 use crate::resume::OpenStore;
 use dns_engine::SharedVersion;
+use journal::RequestMessages;
 use std::alloc::{AllocError, Global};
 use std::sync::Wait;
 use store_compaction::{RecentUpdates, StoreWriter, steps_of};
@@ -51,27 +53,15 @@ fn trail_of<R: Wait>(
     alloc: Global,
     first: &SharedVersion,
     later: &[SharedVersion],
-    updates: &[Vec<u8>],
+    updates: &[RequestMessages],
     keep: usize,
 ) -> Result<RecentUpdates, AllocError>
-    requires short { All IsShort (map (λ update. update.items) updates.now) }
+    requires short { All (λ messages. length (request_octets messages) < body_limit) updates.now }
     requires many { length later.now ≡ length updates.now }
-    ensures { IfOk result (λ trail. (steps : List VersionUpdate) × (versions_in steps ≡ later.now) × (updates_of steps ≡ map (λ update. update.items) updates.now)
+    ensures { IfOk result (λ trail. (steps : List VersionUpdate) × (versions_in steps ≡ later.now) × (updates_of steps ≡ updates.now)
         × (trail ≡ followed (record { oldest = first.now; steps = []; keep = min keep KEPT }) steps)) }
 {
     let mut trail = RecentUpdates::of(alloc, first.share(rt), keep)?;
-    let octets = octets_of(alloc, updates)?;
-    trail.follow(steps_of(rt, alloc, later, &octets)?);
+    trail.follow(steps_of(rt, alloc, later, updates)?);
     Ok(trail)
-}
-
-/// Updates as slices of bytes.
-fn octets_of(alloc: Global, updates: &[Vec<u8>]) -> Result<Vec<&[u8]>, AllocError>
-    ensures { IfOk result (λ octets. map (λ one. one.now) octets.items ≡ map (λ update. update.items) updates.now) }
-{
-    let mut octets = Vec::with_capacity(alloc, updates.len())?;
-    for update in updates {
-        octets.push(update.as_slice())?;
-    }
-    Ok(octets)
 }

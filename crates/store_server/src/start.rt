@@ -1,22 +1,25 @@
 //! Starting from a directory (own).
-ghost use Rattle.std.specs.Prelude.{◌≡◌, ◌≢◌, ◌≤◌, ℕ, [], length, drop, map, IfOk, IfErr, MatchOption};
+ghost use Rattle.std.specs.Prelude.{◌≡◌, ◌≢◌, ◌≤◌, ℕ, [], length, drop, IfOk, IfErr, MatchOption};
 ghost use Rattle.store_files.specs.File.{written};
 ghost use Rattle.store_recovery.specs.Start.{IsStarted};
 ghost use Rattle.store_recovery.specs.Choice.{IsChoice};
-ghost use Rattle.store_server.specs.Started.{AreLastUpdates, GoesOn, IsCreatedStore, IsOfFolder, IsOwnFault, IsNoText, IsKept, IsServed, IsServedOf, IsRefused};
+ghost use Rattle.store_server.specs.Started.{AreLastUpdates, GoesOn, IsOfFolder, IsOwnFault, IsNoText, IsKept, IsNotTaken, IsServed, IsServedOf, IsRefused, TakesOn};
 ghost use Rattle.store_files.specs.Store.{IsAsNoted};
 
-use crate::create::{create_first, create_over};
+use crate::create::create_first;
 use crate::refusal::Refusal;
 use crate::resume::{OpenStore, resume_pair};
+use crate::taken::{TakenZone, taken_journal};
 use crate::updates::start_with_updates;
 use dns_name::Name;
 use dns_rdata::Serial;
-use journal::Head;
+use journal::RequestMessages;
 use master_file::read_zone;
 use std::alloc::Global;
 use std::fs::{File, Files};
-use store_files::{OpenedFolder, Pair, StoreLock, drop_others, keep_pair, keep_torn, open_store};
+use store_files::{
+    OpenedFolder, Pair, StoreLock, drop_others, keep_torn, open_store, replace_journal,
+};
 use store_recovery::{Choice, Ending, Recovery, Take, choose};
 use zone_tree::{Zone, ZoneRead};
 
@@ -42,8 +45,8 @@ pub enum Served {
     Store,
     /// The store, although the zone file has changed: its zone has this serial, which is not greater.
     StoreThoughOther(Serial),
-    /// The zone file, as the operator chose. The previous store is kept in this directory.
-    Zone(String),
+    /// The store, changed to the zone file, as the operator chose.
+    Zone(TakenZone),
 }
 
 /// What a server begins with.
@@ -140,17 +143,11 @@ fn start_found<R: Files<File = File> + Alloc + Clone + Drop>(
             let has = start.newest.last.serial();
             Err(Refusal::Newer { has, given })
         }
-        Choice::RefuseNotNewer(given) => {
-            let has = start.newest.last.serial();
-            Err(Refusal::NotNewer { has, given })
-        }
         Choice::RefuseOtherApex(given) => {
             let has = start.newest.last.zone().apex().copy();
             Err(Refusal::OtherApex { has, given })
         }
-        Choice::Zone(zone) => take_text(
-            rt, alloc, dir, given, random, lock, pair, start.head, zone,
-        ),
+        Choice::Zone(zone) => take_text(rt, alloc, dir, given, random, lock, pair, &start, &zone),
     }
 }
 
@@ -177,12 +174,12 @@ fn go_on<R: Files<File = File> + Alloc + Clone + Drop>(
     lock: StoreLock,
     pair: Pair,
     start: Recovery,
-    updates: Vec<Vec<u8>>,
+    updates: Vec<RequestMessages>,
     served: Served,
 ) -> Result<Started, Refusal>
     requires noted { written pair.disk ≡ pair.journal.items }
     requires started { IsStarted pair.text.items pair.journal.items start }
-    requires updates { AreLastUpdates pair.text.items pair.journal.items (length start.newest.older.items) (map (λ update. update.items) updates.items) }
+    requires updates { AreLastUpdates pair.text.items pair.journal.items (length start.newest.older.items) updates.items }
     ensures store { IfOk result (λ started. GoesOn pair.text.items pair.journal.items start started.store) }
     ensures served { IfOk result (λ started. started.served ≡ served) }
     ensures refused { IfErr result IsOwnFault }
@@ -198,8 +195,9 @@ fn go_on<R: Files<File = File> + Alloc + Clone + Drop>(
     })
 }
 
-/// Creates the store again from the zone file that the operator chose, with this zone. The previous store, with this head, is kept beside it.
-fn take_text<R: Files<File = File>>(
+/// Changes the store to the zone of the zone file that the operator chose: its journal is replaced by one that has the same batches, the change after them, and a head by which
+/// the store was created from that zone file. A crash leaves the store as it was or changed.
+fn take_text<R: Files<File = File> + Alloc + Clone + Drop>(
     rt: &R,
     alloc: Global,
     dir: &str,
@@ -207,21 +205,35 @@ fn take_text<R: Files<File = File>>(
     random: [u8; 16],
     lock: StoreLock,
     pair: Pair,
-    head: Head,
-    zone: Zone,
+    start: &Recovery,
+    zone: &Zone,
 ) -> Result<Started, Refusal>
+    requires started { IsStarted pair.text.items pair.journal.items start.now }
     ensures served { IfOk result (λ started. IsKept started.served) }
-    ensures begun { IfOk result (λ started. (number : ℕ) × IsCreatedStore zone number random given.entry.text.now started.store) }
-    ensures refused { IfErr result IsOwnFault }
+    ensures taken { IfOk result (λ started. TakesOn pair.text.items pair.journal.items start.now zone.now given.entry.text.now random started.store) }
+    ensures refused { IfErr result (λ refusal. IsNotTaken start.now.newest.last.zone zone.now refusal) }
 {
-    let next = head.number.saturating_add(1);
-    let kept = keep_pair(rt, alloc, dir, head.number, &pair.text, &pair.journal)?;
-    let store = create_over(rt, alloc, dir, &kept, zone, next, random, given.text)?;
+    let torn = keep_end(rt, alloc, dir, &pair.journal, start.ending)?;
+    let (journal, taken) = taken_journal(alloc, &pair.journal, start, given.text, random, zone)?;
+    let disk = replace_journal(rt, alloc, dir, &journal)?;
+    let Pair {
+        text,
+        journal: _,
+        disk: _,
+    } = pair;
+    let (start, updates) = start_with_updates(alloc, &text, &journal)?;
+    let pair = Pair {
+        text,
+        journal,
+        disk,
+    };
+    let store = resume_pair(pair, start, updates)?;
+    drop_others(rt, dir, store.head.number)?;
     Ok(Started {
         lock,
         store,
-        served: Served::Zone(kept.into_path()),
-        torn: None,
+        served: Served::Zone(taken),
+        torn,
     })
 }
 

@@ -1,22 +1,23 @@
 //! Recovery, with the updates of the recovered versions (own).
-ghost use Rattle.std.specs.Prelude.{◌≡◌, ◌-◌, length, drop, map, IfOk, IfErr};
+ghost use Rattle.std.specs.Prelude.{◌≡◌, ◌-◌, length, drop, map, All, IfOk, IfErr};
+ghost use Rattle.journal.specs.Batch.{IsRequest};
 ghost use Rattle.store_recovery.specs.Start.{IsStarted};
 ghost use Rattle.store_server.specs.Started.{AreLastUpdates, IsNoStore};
 
 use crate::refusal::Refusal;
-use journal::recover;
+use journal::{RequestMessages, recover};
 use std::alloc::{AllocError, Global};
 use store_recovery::{Recovery, StartFault, start_of};
 
-/// Recovers a zone file and its journal, which is read once, with the updates that made the recovered versions after the oldest one, as they were received. It allocates
-/// memory.
+/// Recovers a zone file and its journal, which is read once, with the updates that made the recovered versions after the oldest one, each as the messages of its request. It
+/// allocates memory.
 pub(crate) fn start_with_updates(
     alloc: Global,
     text: &[u8],
     journal: &[u8],
-) -> Result<(Recovery, Vec<Vec<u8>>), Refusal>
+) -> Result<(Recovery, Vec<RequestMessages>), Refusal>
     ensures started { IfOk result (λ r. IsStarted text.now journal.now r.0) }
-    ensures updates { IfOk result (λ r. AreLastUpdates text.now journal.now (length r.0.newest.older.items) (map (λ update. update.items) r.1.items)) }
+    ensures updates { IfOk result (λ r. AreLastUpdates text.now journal.now (length r.0.newest.older.items) r.1.items) }
     ensures refused { IfErr result (λ refusal. IsNoStore text.now journal.now refusal) }
 {
     let found = match recover(alloc, text, journal) {
@@ -28,21 +29,30 @@ pub(crate) fn start_with_updates(
     Ok((start, updates))
 }
 
-/// The last `count` of these updates. It allocates memory.
-fn last_updates(alloc: Global, all: &[&[u8]], count: usize) -> Result<Vec<Vec<u8>>, AllocError>
-    ensures { IfOk result (λ last. map (λ update. update.items) last.items ≡ drop (length all.now - count) (map (λ update. update.now) all.now)) }
+/// The last `count` of these requests, each of which stands in a batch. It allocates memory.
+fn last_updates(
+    alloc: Global,
+    all: &[Vec<&[u8]>],
+    count: usize,
+) -> Result<Vec<RequestMessages>, AllocError>
+    requires { All IsRequest (map (λ request. map (λ message. message.now) request.items) all.now) }
+    ensures { IfOk result (λ last. last.items ≡ drop (length all.now - count) (map (λ request. map (λ message. message.now) request.items) all.now)) }
 {
     let first = all.len().saturating_sub(count);
     owned(alloc, &all[first..])
 }
 
-/// A copy of each of these byte strings. It allocates memory.
-fn owned(alloc: Global, found: &[&[u8]]) -> Result<Vec<Vec<u8>>, AllocError>
-    ensures { IfOk result (λ owned. map (λ octets. octets.items) owned.items ≡ map (λ octets. octets.now) found.now) }
+/// A copy of each of these requests, each of which stands in a batch. It allocates memory.
+fn owned(alloc: Global, found: &[Vec<&[u8]>]) -> Result<Vec<RequestMessages>, AllocError>
+    requires { All IsRequest (map (λ request. map (λ message. message.now) request.items) found.now) }
+    ensures { IfOk result (λ owned. owned.items ≡ map (λ request. map (λ message. message.now) request.items) found.now) }
 {
     let mut all = Vec::new(alloc);
-    for octets in found {
-        all.push(octets.to_vec(alloc)?)?;
+    for request in found {
+        match RequestMessages::copied(alloc, request)? {
+            Some(copy) => all.push(copy)?,
+            None => unreachable!(),
+        }
     }
     Ok(all)
 }

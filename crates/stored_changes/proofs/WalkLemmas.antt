@@ -1,5 +1,6 @@
 -- Updates that are applied one after another, and what is told of each.
-use Rattle.std.proofs.Common.{◌≡◌, ◌≢◌, ℕ, Bool, ◌&&◌, not, ◌==◌, ◌+◌, ◌<◌, ◌≤◌, true, List, [], ◌∷◌, ◌++◌, length, take, get_or, Option, None, Some, unwrap_or, Bor, refl, sym, ap, ◌∙◌, subst, arith}
+use Rattle.journal.specs.Batch.{Messages}
+use Rattle.std.proofs.Common.{◌≡◌, ◌≢◌, ℕ, Bool, ◌&&◌, not, ◌==◌, ◌+◌, ◌<◌, ◌≤◌, true, List, [], ◌∷◌, ◌++◌, length, take, get_or, Option, None, Some, unwrap_or, Bor, Vec, Global, refl, sym, ap, ◌∙◌, subst, arith}
 use Rattle.std.specs.List.{list_any}
 use Rattle.std.proofs.lemmas.List.Filters.{length-filter_both}
 use Rattle.std.proofs.lemmas.Option.{slice_get-get_or}
@@ -17,11 +18,11 @@ use Rattle.dns_engine.proofs.ReplayLemmas.{changes_more, replay_more}
 use Rattle.store_recovery.specs.declared.fault.UpdateFault.{UpdateFault}
 use Rattle.store_recovery.specs.Replay.{AreRead, IsMade, IsUpdateFault, IsNotTaken}
 use Rattle.store_recovery.proofs.ReadLemmas.{read_more}
-use Rattle.store_recovery.proofs.ReplayLemmas.{now_of}
+use Rattle.store_recovery.proofs.ReplayLemmas.{messages_now, now_of}
 use Rattle.stored_changes.specs.StoredChanges.{change_of, after, changes_text, AreTold}
 
 -- messages are applied to a zone: the last version, and what is told of them
-pub record IsWalked (zone : List Record) (messages : List (List ℕ)) (last : Version) (reported : List ℕ) : Type 0 where
+pub record IsWalked (zone : List Record) (messages : List Messages) (last : Version) (reported : List ℕ) : Type 0 where
   pub updates : List Update
   pub read : AreRead messages updates
   pub taken : EachChanges zone updates
@@ -49,7 +50,7 @@ told_more zone (other ∷ updates) update =
     (change_of (replay (after zone other) updates) (after (replay (after zone other) updates) update)))
 
 -- one message more is applied
-pub more_walked : (zone : List Record) (messages : List (List ℕ)) (message : List ℕ) (last next : Version) (reported now : List ℕ)
+pub more_walked : (zone : List Record) (messages : List Messages) (message : Messages) (last next : Version) (reported now : List ℕ)
     → IsWalked zone messages last reported → IsMade last message next → now ≡ reported ++ change_of last.zone next.zone
     → IsWalked zone (messages ++ message ∷ []) next now
 more_walked zone messages message last next reported now is made grown =
@@ -68,46 +69,46 @@ more_walked zone messages message last next reported now is made grown =
     }
 
 -- the same of what is lent
-lent_at : (messages : List (Bor (List ℕ))) (place : ℕ) (d : Bor (List ℕ)) → place < length messages → get_or (now_of messages) place d.now ≡ (get_or messages place d).now
-lent_at messages place d within = get_or-map (λ (b : Bor (List ℕ)). b.now) messages place d d.now within
+lent_at : (messages : List (Vec (Bor (List ℕ)) Global)) (place : ℕ) (d : Vec (Bor (List ℕ)) Global) → place < length messages → get_or (now_of messages) place (messages_now d) ≡ messages_now (get_or messages place d)
+lent_at messages place d within = get_or-map messages_now messages place d (messages_now d) within
 
-lent_long : (messages : List (Bor (List ℕ))) → length (now_of messages) ≡ length messages
-lent_long messages = length-map messages (λ (b : Bor (List ℕ)). b.now)
+lent_long : (messages : List (Vec (Bor (List ℕ)) Global)) → length (now_of messages) ≡ length messages
+lent_long messages = length-map messages messages_now
 
-lent_more : (messages : List (Bor (List ℕ))) (place : ℕ) (d : Bor (List ℕ)) → place < length messages
-    → take (place + 1) (now_of messages) ≡ take place (now_of messages) ++ (get_or messages place d).now ∷ []
+lent_more : (messages : List (Vec (Bor (List ℕ)) Global)) (place : ℕ) (d : Vec (Bor (List ℕ)) Global) → place < length messages
+    → take (place + 1) (now_of messages) ≡ take place (now_of messages) ++ (messages_now (get_or messages place d)) ∷ []
 lent_more messages place d within =
-    take_more (now_of messages) place d.now (omega (arith, within, lent_long messages)) ∙ ap (λ (m : List ℕ). take place (now_of messages) ++ m ∷ []) (lent_at messages place d within)
+    take_more (now_of messages) place (messages_now d) (omega (arith, within, lent_long messages)) ∙ ap (λ (m : Messages). take place (now_of messages) ++ m ∷ []) (lent_at messages place d within)
 
-pub one_more_walked : (zone : List Record) (messages : List (Bor (List ℕ))) (place : ℕ) (d : Bor (List ℕ)) (last next : Version) (reported now : List ℕ)
-    → IsWalked zone (take place (now_of messages)) last reported → place < length messages → IsMade last (get_or messages place d).now next
+pub one_more_walked : (zone : List Record) (messages : List (Vec (Bor (List ℕ)) Global)) (place : ℕ) (d : Vec (Bor (List ℕ)) Global) (last next : Version) (reported now : List ℕ)
+    → IsWalked zone (take place (now_of messages)) last reported → place < length messages → IsMade last (messages_now (get_or messages place d)) next
     → now ≡ reported ++ change_of last.zone next.zone → IsWalked zone (take (place + 1) (now_of messages)) next now
 one_more_walked zone messages place d last next reported now is within made grown =
-    subst (λ (ms : List (List ℕ)). IsWalked zone ms next now) (sym (lent_more messages place d within))
-    (more_walked zone (take place (now_of messages)) (get_or messages place d).now last next reported now is made grown)
+    subst (λ (ms : List Messages). IsWalked zone ms next now) (sym (lent_more messages place d within))
+    (more_walked zone (take place (now_of messages)) (messages_now (get_or messages place d)) last next reported now is made grown)
 
-pub walked_number : (zone : List Record) (messages : List (Bor (List ℕ))) (place : ℕ) (last : Version) (reported : List ℕ) → IsWalked zone (take place (now_of messages)) last reported → place ≤ length messages
+pub walked_number : (zone : List Record) (messages : List (Vec (Bor (List ℕ)) Global)) (place : ℕ) (last : Version) (reported : List ℕ) → IsWalked zone (take place (now_of messages)) last reported → place ≤ length messages
     → last.number ≡ place
 walked_number zone messages place last reported is within = is.number ∙ omega (arith, length-take place (now_of messages), lent_long messages)
 
-pub all_walked : (zone : List Record) (messages : List (Bor (List ℕ))) (place : ℕ) (last : Version) (reported : List ℕ) → IsWalked zone (take place (now_of messages)) last reported → length messages ≤ place
+pub all_walked : (zone : List Record) (messages : List (Vec (Bor (List ℕ)) Global)) (place : ℕ) (last : Version) (reported : List ℕ) → IsWalked zone (take place (now_of messages)) last reported → length messages ≤ place
     → AreTold zone (now_of messages) reported
 all_walked zone messages place last reported is end =
     let all : IsWalked zone (now_of messages) last reported =
-    subst (λ (ms : List (List ℕ)). IsWalked zone ms last reported) (take_all place (now_of messages) (omega (arith, end, lent_long messages))) is in
+    subst (λ (ms : List Messages). IsWalked zone ms last reported) (take_all place (now_of messages) (omega (arith, end, lent_long messages))) is in
     record { updates = all.updates; read = all.read; taken = all.taken; reported = all.lines }
 
 -- the message at a place isn't taken
-pub not_taken_at : (zone : List Record) (messages : List (Bor (List ℕ))) (place : ℕ) (d : Bor (List ℕ)) (last : Version) (reported : List ℕ) (fault : UpdateFault)
-    → IsWalked zone (take place (now_of messages)) last reported → place < length messages → IsUpdateFault last.zone (get_or messages place d).now fault
+pub not_taken_at : (zone : List Record) (messages : List (Vec (Bor (List ℕ)) Global)) (place : ℕ) (d : Vec (Bor (List ℕ)) Global) (last : Version) (reported : List ℕ) (fault : UpdateFault)
+    → IsWalked zone (take place (now_of messages)) last reported → place < length messages → IsUpdateFault last.zone (messages_now (get_or messages place d)) fault
     → IsNotTaken zone (now_of messages) place fault
 not_taken_at zone messages place d last reported fault is within why = record {
   before = is.updates;
   read = is.read;
   taken = is.taken;
-  message = (get_or messages place d).now;
-  is_present = slice_get-get_or (now_of messages) place d.now (omega (arith, within, lent_long messages)) ∙ ap Some (lent_at messages place d within);
-  why = subst (λ (z : List Record). IsUpdateFault z (get_or messages place d).now fault) is.here why;
+  message = messages_now (get_or messages place d);
+  is_present = slice_get-get_or (now_of messages) place (messages_now d) (omega (arith, within, lent_long messages)) ∙ ap Some (lent_at messages place d within);
+  why = subst (λ (z : List Record). IsUpdateFault z (messages_now (get_or messages place d)) fault) is.here why;
 }
 
 -- no more records are left out of a zone than it may have

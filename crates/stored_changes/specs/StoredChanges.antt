@@ -1,4 +1,5 @@
 -- What the updates of a store changed, as text (own).
+use Rattle.journal.specs.Batch.{Messages}
 use Rattle.std.specs.Prelude.{◌≡◌, ℕ, List, [], ◌∷◌, ◌++◌, codes, decimal, length, unwrap_or}
 use Rattle.dns_rdata.specs.Record.{Record}
 use Rattle.dns_message.specs.declared.update.Update.{Update}
@@ -37,7 +38,7 @@ changes_text zone [] = []
 changes_text zone (update ∷ updates) = change_of zone (after zone update) ++ changes_text (after zone update) updates
 
 -- messages are updates that are accepted one after another, and this is what they changed
-pub record AreTold (zone : List Record) (messages : List (List ℕ)) (text : List ℕ) : Type 0 where
+pub record AreTold (zone : List Record) (messages : List Messages) (text : List ℕ) : Type 0 where
   pub updates : List Update
   pub read : AreRead messages updates
   pub taken : EachChanges zone updates
@@ -46,6 +47,6 @@ pub record AreTold (zone : List Record) (messages : List (List ℕ)) (text : Lis
 -- the same of a zone text and its journal, as a start reads them
 pub record IsToldOf (text octets reported : List ℕ) : Type 0 where
   pub zone : List Record
-  pub messages : List (List ℕ)
+  pub messages : List Messages
   pub pair : IsPair text octets zone messages
   pub changes : AreTold zone messages reported

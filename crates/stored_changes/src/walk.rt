@@ -33,15 +33,15 @@ pub fn write_changes(alloc: Global, text: &[u8], journal: &[u8]) -> Result<Strin
     Ok(reported)
 }
 
-/// What messages change of a zone, applied one after another.
-fn walk(alloc: Global, zone: Zone, messages: &[&[u8]]) -> Result<String, StartFault>
-    ensures reported { IfOk result (λ reported. AreTold zone (map (λ message. message.now) messages.now) (string_bytes reported)) }
-    ensures refused { IfErr result (λ fault. IsReplayFault zone (map (λ message. message.now) messages.now) fault) }
+/// What requests change of a zone, applied one after another.
+fn walk(alloc: Global, zone: Zone, requests: &[Vec<&[u8]>]) -> Result<String, StartFault>
+    ensures reported { IfOk result (λ reported. AreTold zone (map (λ request. map (λ message. message.now) request.items) requests.now) (string_bytes reported)) }
+    ensures refused { IfErr result (λ fault. IsReplayFault zone (map (λ request. map (λ message. message.now) request.items) requests.now) fault) }
 {
     let mut reported = String::new(alloc);
     let mut last = Version::first(zone);
-    for (place, message) in messages.iter().enumerate() {
-        match next_version(alloc, &last, message)? {
+    for (place, request) in requests.iter().enumerate() {
+        match next_version(alloc, &last, request)? {
             Ok(next) => {
                 put_version(&mut reported, &last, &next)?;
                 last = next;

@@ -1,6 +1,6 @@
 //! Updates for the tests, and journals of them.
 use dns_name::Name;
-use journal::{Head, TextSum, put_update, write_frame, write_head};
+use journal::{Head, RequestMessages, TextSum, put_request, write_frame, write_head};
 use master_file::read_zone;
 use std::alloc::Global;
 use std::test::Fail;
@@ -49,8 +49,8 @@ fn batch_of(alloc: Global, messages: &[&str]) -> Result<Vec<u8>, Fail> {
     let mut batch = Vec::new(alloc);
     for message in messages {
         let update = hex::decode(alloc, message.as_bytes())?;
-        if update.len() < 65_536 {
-            put_update(&mut batch, &update)?;
+        if let Some(request) = RequestMessages::one(alloc, update) {
+            put_request(alloc, &mut batch, &request)?;
         }
     }
     Ok(batch)
@@ -64,6 +64,28 @@ pub(crate) fn journal_of(alloc: Global, zone: &str, batches: &[&[&str]]) -> Resu
         if batch.len() < 1 << 24 {
             octets.extend_from_slice(&write_frame(alloc, &salt, number as u64, &batch)?)?;
         }
+    }
+    Ok(octets)
+}
+
+/// The journal of one batch of one request, which has these messages, under the head of a store that is created from a zone text.
+pub(crate) fn joined_journal_of(
+    alloc: Global,
+    zone: &str,
+    messages: &[&str],
+) -> Result<Vec<u8>, Fail> {
+    let (mut octets, salt) = write_head(alloc, &head_of(alloc, zone)?)?;
+    let mut all = Vec::new(alloc);
+    for message in messages {
+        all.push(hex::decode(alloc, message.as_bytes())?)?;
+    }
+    let Some(request) = RequestMessages::of(all) else {
+        return Err(Fail::from("a request can't stand in a batch"));
+    };
+    let mut batch = Vec::new(alloc);
+    put_request(alloc, &mut batch, &request)?;
+    if batch.len() < 1 << 24 {
+        octets.extend_from_slice(&write_frame(alloc, &salt, 0, &batch)?)?;
     }
     Ok(octets)
 }

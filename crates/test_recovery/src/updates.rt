@@ -14,7 +14,7 @@ use std::net::SocketAddr;
 use std::sync::Wait;
 use std::test::Fail;
 use store_compaction::{RecentUpdates, StoreWriter};
-use store_files::{FileDisk, write_pair};
+use store_files::{FileDisk, begin_pair};
 use store_recovery::create_store;
 use update_batches::{MOST, QueuedUpdate, ReplyTo, UpdateRequest, VersionUpdate, judge_batch};
 use zone_tree::Version;
@@ -51,7 +51,7 @@ fn begin_writer(rt: &HostRuntime, dir: &str) -> Result<StoreWriter<FileDisk>, Fa
     let origin = TextSum::of(ZONE.as_bytes());
     let (text, head) = create_store(alloc, first.get().zone(), 0, [7; 16], origin)?;
     let (octets, salt) = write_head(alloc, &head)?;
-    let disk = write_pair(rt, alloc, dir, 0, text.as_bytes(), &octets)?;
+    let disk = begin_pair(rt, alloc, dir, text.as_bytes(), &octets)?;
     let log = Log::resume(disk, &salt, 0, octets.len() as u64)?;
     let trail = RecentUpdates::of(alloc, first, KEPT)?;
     Ok(StoreWriter::of(head, log, trail))
@@ -76,7 +76,7 @@ fn request_of(alloc: Global, octets: Vec<u8>) -> Option<UpdateRequest>
     ensures { IfSome result (λ request. request.may ≡ true) }
 {
     match parse(alloc, &octets) {
-        Parsed::Update(update) => UpdateRequest::of(update, octets, true),
+        Parsed::Update(update) => UpdateRequest::of(alloc, update, octets, true),
         _ => None,
     }
 }

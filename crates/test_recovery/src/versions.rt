@@ -1,5 +1,7 @@
 //! The versions that starts recover.
-use crate::journals::{ADD_A, ADD_B, ADD_MORE, DELETE_A, DELETE_B, ZONE, journal_of};
+use crate::journals::{
+    ADD_A, ADD_B, ADD_MORE, DELETE_A, DELETE_B, ZONE, joined_journal_of, journal_of,
+};
 use master_file::{write_set, write_zone};
 use std::alloc::{AllocError, Global};
 use std::test::Fail;
@@ -50,6 +52,28 @@ fn newest_versions(rt: HostRuntime) -> Result<(), Fail> {
 12: 19 -0 +1
 13: 20 -1 +0
 14: 21 -0 +1
+"
+    );
+    Ok(())
+}
+
+// A request of three messages is one update, with the records of all, and makes one version.
+#[test]
+fn joined_messages(rt: HostRuntime) -> Result<(), Fail> {
+    let alloc: Global = rt.alloc();
+    let journal = joined_journal_of(alloc, ZONE, &[ADD_A, ADD_B, ADD_MORE])?;
+    let start = recover_zone(alloc, ZONE.as_bytes(), &journal)?;
+    assert_eq!(rt;
+        lines_of(alloc, &start)?.as_str(),
+        "0: 7 -0 +0\n1: 8 -0 +2\n"
+    );
+    assert_eq!(rt;
+        write_zone(alloc, start.newest.last.zone())?.as_str(),
+        "example. 3600 IN SOA ns.example. host.example. 8 1 1 1 1
+example. 3600 IN NS ns.example.
+a.example. 300 IN A 192.0.2.1
+a.example. 300 IN A 192.0.2.3
+b.example. 300 IN A 192.0.2.2
 "
     );
     Ok(())

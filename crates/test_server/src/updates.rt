@@ -169,7 +169,7 @@ pub(crate) fn is_ready(fetched: &Poll, expected: &Outcome) -> bool {
     let Poll::Ready(done) = fetched else {
         return false;
     };
-    let last = done.asked.octets().last().copied();
+    let last = done.asked.messages().first().last().copied();
     last == Some(expected.0)
         && done.code == expected.1
         && done.least == expected.2

@@ -1,6 +1,6 @@
 //! Crashes of a disk held in memory.
 use crate::journals::{batch_of, empty_log, recovered};
-use journal::{Log, LogFault, Recovered, put_update};
+use journal::{Log, LogFault, Recovered, RequestMessages, put_request};
 use memory_devices::MemoryDisk;
 use std::alloc::{AllocError, Global};
 
@@ -78,8 +78,19 @@ fn some_batch(alloc: Global, random: &mut Random) -> Result<Vec<u8>, AllocError>
     let mut batch = Vec::new(alloc);
     for _ in 0..=random.below(3) {
         let update = octets_of(alloc, random, 60)?;
-        if update.len() < 65_536 {
-            put_update(&mut batch, &update)?;
+        if let Some(request) = RequestMessages::one(alloc, update) {
+            put_request(alloc, &mut batch, &request)?;
+        }
+    }
+    Ok(batch)
+}
+
+/// The batch of requests that were read.
+fn read_again(alloc: Global, requests: &[Vec<&[u8]>]) -> Result<Vec<u8>, AllocError> {
+    let mut batch = Vec::new(alloc);
+    for messages in requests {
+        if let Some(request) = RequestMessages::copied(alloc, messages)? {
+            put_request(alloc, &mut batch, &request)?;
         }
     }
     Ok(batch)
@@ -121,7 +132,7 @@ fn crashed(
 
 /// Whether these are the updates that were reported to be on the disk, and after them none, or the whole batch that the disk refused last.
 fn is_sent(alloc: Global, found: &Recovered<'_>, sent: &Sent) -> Result<bool, AllocError> {
-    let updates = batch_of(alloc, &found.updates)?;
+    let updates = read_again(alloc, &found.updates)?;
     Ok(match updates.split_at_checked(sent.outcome.len()) {
         Some((outcome, rest)) => {
             outcome == sent.outcome.as_slice()
@@ -160,7 +171,7 @@ fn goes_on(
     found: &Recovered<'_>,
 ) -> Result<bool, AllocError> {
     let mut sent = Sent {
-        outcome: batch_of(alloc, &found.updates)?,
+        outcome: read_again(alloc, &found.updates)?,
         refused: Vec::new(alloc),
     };
     let disk = MemoryDisk::of(alloc, image)?;

@@ -5,7 +5,9 @@ use std::alloc::{AllocError, Global};
 use std::io::ErrorKind;
 use std::test::Fail;
 use std::{fs, io};
-use store_files::{FileDisk, OpenedFolder, PairFault, open_store, read_store, write_pair};
+use store_files::{
+    FileDisk, NewText, OpenedFolder, PairFault, open_store, read_store, replace_journal,
+};
 
 /// Makes a directory without files.
 pub fn make_folder(rt: &HostRuntime, dir: &str) -> io::Result<()> {
@@ -28,7 +30,8 @@ pub fn begun(alloc: Global, number: u64, text: &[u8]) -> Result<(Vec<u8>, [u8; S
 /// Writes a zone text with a journal without updates.
 pub fn put_pair(rt: &HostRuntime, dir: &str, number: u64, text: &[u8]) -> Result<FileDisk, Fail> {
     let (journal, _) = begun(rt.alloc(), number, text)?;
-    match write_pair(rt, rt.alloc(), dir, number, text, &journal) {
+    NewText::create(rt, rt.alloc(), dir, number)?.write(text)?;
+    match replace_journal(rt, rt.alloc(), dir, &journal) {
         Ok(disk) => Ok(disk),
         Err(PairFault::Before(_)) => Err(Fail::from("the pair before stays")),
         Err(PairFault::Unknown(_)) => Err(Fail::from("either pair may be there")),

@@ -1,7 +1,8 @@
 //! The content of a head and of frames, as built by another program, whose sums are those of sha256sum.
 use crate::journals::{BATCHES, END, bad_head, journal_of, outcome, recovers, salt};
 use journal::{
-    HeadFault, Refused, put_update, read_all, read_frame, read_head, recover, write_frame,
+    HeadFault, Refused, RequestMessages, put_request, read_all, read_batch, read_frame, read_head,
+    recover, write_frame,
 };
 use std::alloc::{AllocError, Global};
 use std::test::Fail;
@@ -27,8 +28,8 @@ const JOURNAL: &str = "\
     ce878244bc21dd78\
     00000010\
     0000000000000001\
-    0000000c746869726420757064617465\
-    35abb5cd2b954b7e161595224db972effd605b3f6aaf73b12b271a2c7c716ebb\
+    000374776f00097468697264206f6e65\
+    644ac73e8b9496cba8ea54d596ced6c28b611acac4d1379909c06ccabdf6c50c\
     ce878244bc21dd78\
     00000008\
     0000000000000002\
@@ -85,7 +86,9 @@ fn with_no_batch(alloc: Global) -> Result<Vec<u8>, AllocError> {
     let mut octets = journal_of(alloc, &BATCHES)?;
     let salt = salt(alloc)?;
     let mut body = Vec::new(alloc);
-    put_update(&mut body, b"whole")?;
+    if let Some(whole) = RequestMessages::copied(alloc, &[b"whole"])? {
+        put_request(alloc, &mut body, &whole)?;
+    }
     body.extend_from_slice(&[0, 6, b's', b'h', b'o', b'r', b't'])?;
     if body.len() < 1 << 24 {
         octets.extend_from_slice(&write_frame(alloc, &salt, 3, &body)?)?;
@@ -120,4 +123,55 @@ fn memory_is_refused(rt: HostRuntime) {
         let outcome = outcome(rt.alloc(), &octets);
         assert!(rt; outcome == recovers(3, END, false) || outcome == Err(Refused::NoMemory));
     }
+}
+
+/// The octets of a batch of two requests: the first has two messages, the second one.
+const JOINED: &[u8] = b"\x00\x03one\x00\x00\x00\x03two\x00\x05third";
+
+/// Whether the octets of a batch are read as these two requests.
+fn are_joined(requests: &[Vec<&[u8]>]) -> bool {
+    match requests {
+        [first, second] => {
+            first.as_slice() == [b"one".as_slice(), b"two".as_slice()].as_slice()
+                && second.as_slice() == [b"third".as_slice()].as_slice()
+        }
+        _ => false,
+    }
+}
+
+// A request of two messages has no octets, after their number, between them; and it is read as one request.
+#[test]
+fn joined_messages(rt: HostRuntime) -> Result<(), Fail> {
+    let alloc = rt.alloc();
+    let mut batch = Vec::new(alloc);
+    for messages in [
+        [b"one".as_slice(), b"two".as_slice()].as_slice(),
+        [b"third".as_slice()].as_slice(),
+    ] {
+        match RequestMessages::copied(alloc, messages)? {
+            Some(request) => put_request(alloc, &mut batch, &request)?,
+            None => return Err(Fail::from("a request can't stand in a batch")),
+        }
+    }
+    assert_eq!(rt; batch.as_slice(), JOINED);
+    let read = read_batch(alloc, JOINED)?;
+    assert!(rt; read.is_some_and(|requests| are_joined(requests.as_slice())));
+    Ok(())
+}
+
+// No octets at the start of a batch, at its end, or twice are no batch; nor are messages without octets.
+#[test]
+fn joints_at_wrong_places(rt: HostRuntime) -> Result<(), AllocError> {
+    let alloc = rt.alloc();
+    for octets in [
+        b"\x00\x00\x00\x03one".as_slice(),
+        b"\x00\x03one\x00\x00".as_slice(),
+        b"\x00\x03one\x00\x00\x00\x00\x00\x03two".as_slice(),
+        b"\x00\x03one\x00".as_slice(),
+    ] {
+        assert!(rt; read_batch(alloc, octets)?.is_none());
+    }
+    assert!(rt; RequestMessages::copied(alloc, &[b"one".as_slice(), b"".as_slice()])?.is_none());
+    assert!(rt; RequestMessages::copied(alloc, &[])?.is_none());
+    Ok(())
 }

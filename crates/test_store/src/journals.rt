@@ -1,7 +1,7 @@
 //! Journals for the tests, and the results of starts from octets.
 use journal::{
-    Head, HeadFault, Log, Recovered, Refused, SUM, TextSum, put_update, recover, write_frame,
-    write_head,
+    Head, HeadFault, Log, Recovered, Refused, RequestMessages, SUM, TextSum, put_request, recover,
+    write_frame, write_head,
 };
 use memory_devices::MemoryDisk;
 use std::alloc::{AllocError, Global};
@@ -27,7 +27,7 @@ pub(crate) fn salt(alloc: Global) -> Result<[u8; SUM], AllocError> {
 }
 
 /// The updates of the batches of the tests, as octets that are not parsed.
-pub(crate) const BATCHES: [&[&[u8]]; 3] = [&[b"first"], &[b"", b"third update"], &[b"fourth"]];
+pub(crate) const BATCHES: [&[&[u8]]; 3] = [&[b"first"], &[b"two", b"third one"], &[b"fourth"]];
 
 /// The length of a head, in octets.
 pub(crate) const HEAD: usize = 156;
@@ -48,8 +48,8 @@ pub(crate) const END: usize = LAST + (FRAME + 8);
 pub(crate) fn batch_of(alloc: Global, updates: &[&[u8]]) -> Result<Vec<u8>, AllocError> {
     let mut batch = Vec::new(alloc);
     for update in updates {
-        if update.len() < 65_536 {
-            put_update(&mut batch, update)?;
+        if let Some(request) = RequestMessages::copied(alloc, &[update])? {
+            put_request(alloc, &mut batch, &request)?;
         }
     }
     Ok(batch)
@@ -78,12 +78,14 @@ pub(crate) fn empty_log(
 }
 
 /// Their updates, in order.
-const UPDATES: [&[u8]; 4] = [b"first", b"", b"third update", b"fourth"];
+const UPDATES: [&[u8]; 4] = [b"first", b"two", b"third one", b"fourth"];
 
 /// The number of batches that these updates make, from the first batch on. None if they are not the updates of the first batches.
-fn batches_in(updates: &[&[u8]]) -> Option<u64> {
-    if UPDATES.get(..updates.len()) != Some(updates) {
-        return None;
+fn batches_in(updates: &[Vec<&[u8]>]) -> Option<u64> {
+    for (place, update) in updates.iter().enumerate() {
+        if update.as_slice() != [*UPDATES.get(place)?].as_slice() {
+            return None;
+        }
     }
     match updates.len() {
         0 => Some(0),

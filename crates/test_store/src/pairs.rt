@@ -2,7 +2,7 @@
 use crate::folders::{begun, found, make_folder, pair_of, put_pair};
 use std::fs;
 use std::test::Fail;
-use store_files::{PairFault, begin_pair, is_in_place, write_pair};
+use store_files::{begin_pair, is_in_place};
 
 /// Leaves in a directory what a crash before the rename leaves of the pair with a number.
 fn leave_half(rt: &HostRuntime, dir: &str, number: u64) -> Result<(), Fail> {
@@ -46,8 +46,7 @@ fn a_first_pair_is_begun(rt: HostRuntime) -> Result<(), Fail> {
 }
 
 // What is written is found, and the next pair replaces it, with its text next to the one before. A crash before the rename leaves the old
-// pair, whatever is left of the new one, and the next pair is written over that. A pair that cannot be written leaves the old one too, and
-// this is reported.
+// pair, whatever is left of the new one, and the next pair is written over that. A pair that cannot be written leaves the old one too.
 #[test]
 fn pairs_are_found(rt: HostRuntime) -> Result<(), Fail> {
     let dir = "test_store_pairs";
@@ -66,9 +65,8 @@ fn pairs_are_found(rt: HostRuntime) -> Result<(), Fail> {
     );
     assert!(rt; !fs::exists(&rt, "test_store_pairs/journal.new")?);
     fs::create_dir(&rt, "test_store_pairs/zone-3")?;
-    let (journal, _) = begun(rt.alloc(), 3, b"fourth")?;
-    let outcome = write_pair(&rt, rt.alloc(), dir, 3, b"fourth", &journal);
-    assert!(rt; matches!(outcome, Err(PairFault::Before(_))) && found(&rt, dir)? == before);
+    let outcome = put_pair(&rt, dir, 3, b"fourth");
+    assert!(rt; outcome.is_err() && found(&rt, dir)? == before);
     fs::remove_dir_all(&rt, dir)?;
     Ok(())
 }

@@ -96,7 +96,7 @@ fn is_ready(alloc: Global, fetched: &Poll) -> Option<bool> {
         })
     );
     let is_right = done.code == Rcode::NoError && done.least == 0 && are_own;
-    Some(is_right && is_spelt(alloc, done.asked.octets(), ADD_2)?)
+    Some(is_right && is_spelt(alloc, done.asked.messages().first(), ADD_2)?)
 }
 
 /// Whether all results are as expected.

@@ -72,7 +72,8 @@ impl Store {
             let image = writer.log().disk().crashed(alloc, &[]).ok()?;
             let recovered = recover(alloc, ZONE.as_bytes(), &image).ok()?;
             for update in &recovered.updates {
-                found.push(update.get(1).copied().unwrap_or(0)).ok()?;
+                let first = update.first().copied().unwrap_or(b"");
+                found.push(first.get(1).copied().unwrap_or(0)).ok()?;
             }
         }
         Some(found)

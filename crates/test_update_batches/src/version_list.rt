@@ -128,10 +128,10 @@ fn note_all(
     let mut left = verdicts;
     for update in requests.drain(..count) {
         let (verdict, rest) = first_verdict(left);
-        let octets = update.request.octets();
-        replied.note(&[u64::from(verdict.code.number())], octets);
+        let messages = update.request.messages();
+        replied.note(&[u64::from(verdict.code.number())], messages);
         if results.len() < results.capacity() {
-            results.push_reserved(outcome_of(batch, octets, verdict));
+            results.push_reserved(outcome_of(batch, messages.first(), verdict));
         }
         left = rest;
     }

@@ -1,4 +1,5 @@
 -- What one more update adds to those that are judged so far.
+use Rattle.journal.specs.Batch.{Messages}
 use Rattle.std.proofs.Common.{◌≡◌, ℕ, ◌+◌, ◌<◌, ◌≤◌, zero, suc, List, [], ◌∷◌, ◌++◌, length, get_or, map, refl, sym, ap, ◌∙◌, subst, arith}
 use Rattle.std.proofs.lemmas.List.{length_push}
 use Rattle.dns_rdata.specs.declared.numbers.Rcode.{Rcode}
@@ -9,7 +10,7 @@ use Rattle.update_batches.specs.Verdict.{told_verdict, made_verdict, failed}
 use Rattle.update_batches.specs.declared.queued_update.QueuedUpdate.{QueuedUpdate}
 use Rattle.update_batches.specs.declared.update_request.UpdateRequest.{UpdateRequest}
 use Rattle.update_batches.specs.declared.version_update.VersionUpdate.{VersionUpdate}
-use Rattle.update_batches.specs.UpdateRequest.{passes, tells, makes, octets_of, serial_in}
+use Rattle.update_batches.specs.UpdateRequest.{passes, tells, makes, messages_of, serial_in}
 use Rattle.update_batches.specs.Batch.{newest_of, versions_in, updates_of, IsBatch, Judged, nothing, reported, starved, changed}
 
 -- what holds of three values holds of the same ones
@@ -52,9 +53,9 @@ versions_push : (updates : List VersionUpdate) (update : VersionUpdate) → vers
 versions_push [] update = refl
 versions_push (x ∷ updates) update = ap (λ (vs : List Version). x.version ∷ vs) (versions_push updates update)
 
-updates_push : (updates : List VersionUpdate) (update : VersionUpdate) → updates_of (updates ++ update ∷ []) ≡ updates_of updates ++ update.octets.items ∷ []
+updates_push : (updates : List VersionUpdate) (update : VersionUpdate) → updates_of (updates ++ update ∷ []) ≡ updates_of updates ++ update.messages ∷ []
 updates_push [] update = refl
-updates_push (x ∷ updates) update = ap (λ (os : List (List ℕ)). x.octets.items ∷ os) (updates_push updates update)
+updates_push (x ∷ updates) update = ap (λ (os : List Messages). x.messages ∷ os) (updates_push updates update)
 
 module _ (first : Version) (room : ℕ) where
   pub none_so_far : (verdicts : List Verdict) (updates : List VersionUpdate) → verdicts ≡ [] → updates ≡ [] → IsBatch first [] verdicts updates room
@@ -63,7 +64,7 @@ module _ (first : Version) (room : ℕ) where
       (subst (λ (us : List VersionUpdate). IsBatch first [] [] us room) (sym no_updates) (record { judged = nothing; few = omega arith }))
 
   -- each request has a verdict
-  pub judged_long : {requests : List QueuedUpdate} {verdicts : List Verdict} {made : List Version} {updates : List (List ℕ)} → Judged first requests verdicts made updates
+  pub judged_long : {requests : List QueuedUpdate} {verdicts : List Verdict} {made : List Version} {updates : List Messages} → Judged first requests verdicts made updates
       → length verdicts ≡ length requests
   judged_long nothing = refl
   judged_long (reported {requests} {verdicts} {made} one code judged is) = length_push verdicts (told_verdict (serial_in (newest_of first made)) code) ∙ (ap (λ (n : ℕ). n + 1) (judged_long judged) ∙ sym (length_push requests one))
@@ -71,7 +72,7 @@ module _ (first : Version) (room : ℕ) where
   judged_long (changed {requests} {verdicts} {made} one next judged lets is) = length_push verdicts (made_verdict (serial_in (newest_of first made)) (serial_in next)) ∙ (ap (λ (n : ℕ). n + 1) (judged_long judged) ∙ sym (length_push requests one))
 
   -- each version is made from the one before it
-  pub judged_made : {requests : List QueuedUpdate} {verdicts : List Verdict} {made : List Version} {updates : List (List ℕ)} → Judged first requests verdicts made updates
+  pub judged_made : {requests : List QueuedUpdate} {verdicts : List Verdict} {made : List Version} {updates : List Messages} → Judged first requests verdicts made updates
       → AreMade first made
   judged_made nothing = tt
   judged_made (reported one code judged is) = judged_made judged
@@ -104,17 +105,17 @@ module _ (first : Version) (room : ℕ) where
   pub changed_more : (requests : List QueuedUpdate) (verdicts : List Verdict) (updates all : List VersionUpdate) (one : QueuedUpdate) (next : Version) (verdict : Verdict)
       (update : VersionUpdate) → IsBatch first requests verdicts updates room → passes (newest_of first (versions_in updates)) one.request
       → makes (newest_of first (versions_in updates)) one.request next → verdict ≡ made_verdict (serial_in (newest_of first (versions_in updates))) (serial_in next)
-      → length updates < room → all ≡ updates ++ update ∷ [] → update.version ≡ next → update.octets.items ≡ octets_of one.request
+      → length updates < room → all ≡ updates ++ update ∷ [] → update.version ≡ next → update.messages ≡ messages_of one.request
       → IsBatch first (requests ++ one ∷ []) (verdicts ++ verdict ∷ []) all room
   changed_more requests verdicts updates all one next verdict update so_far lets is same few is_all version octets =
       let made : versions_in (updates ++ update ∷ []) ≡ versions_in updates ++ next ∷ [] =
       versions_push updates update ∙ ap (λ (v : Version). versions_in updates ++ v ∷ []) version in
-      let kept : updates_of (updates ++ update ∷ []) ≡ updates_of updates ++ octets_of one.request ∷ [] =
+      let kept : updates_of (updates ++ update ∷ []) ≡ updates_of updates ++ messages_of one.request ∷ [] =
       updates_push updates update ∙ ap (λ (o : List ℕ). updates_of updates ++ o ∷ []) octets in
       let after : List Verdict = verdicts ++ made_verdict (serial_in (newest_of first (versions_in updates))) (serial_in next) ∷ [] in
       let judged : Judged first (requests ++ one ∷ []) after (versions_in (updates ++ update ∷ [])) (updates_of (updates ++ update ∷ [])) =
       subst (λ (vs : List Version). Judged first (requests ++ one ∷ []) after vs (updates_of (updates ++ update ∷ []))) (sym made)
-      (subst (λ (os : List (List ℕ)). Judged first (requests ++ one ∷ []) after (versions_in updates ++ next ∷ []) os) (sym kept) (changed one next so_far.judged lets is)) in
+      (subst (λ (os : List Messages). Judged first (requests ++ one ∷ []) after (versions_in updates ++ next ∷ []) os) (sym kept) (changed one next so_far.judged lets is)) in
       subst (λ (v : Verdict). IsBatch first (requests ++ one ∷ []) (verdicts ++ v ∷ []) all room) (sym same)
       (subst (λ (us : List VersionUpdate). IsBatch first (requests ++ one ∷ []) after us room) (sym is_all)
       (record { judged = judged; few = omega (arith, few, length_push updates update) }))

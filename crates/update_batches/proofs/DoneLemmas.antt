@@ -1,4 +1,5 @@
 -- The verdict of each update of a batch is so by what is published once the batch is.
+use Rattle.journal.specs.Batch.{Messages}
 use Rattle.std.proofs.Common.{◌≡◌, refl, ℕ, zero, suc, ◌+◌, ◌≤◌, List, [], ◌∷◌, ◌++◌, length, Option, None, Some, inl, inr, sym, ap, ◌∙◌, subst, append-nil, append_assoc, arith}
 use Rattle.std.specs.Prelude.{replicate, drop, MatchOption, ◌<◌}
 use Rattle.std.proofs.lemmas.List.{length_push}
@@ -75,7 +76,7 @@ done_push published begun (first ∷ verdicts) (other ∷ batch) one verdict lon
 
 module _ (published : List Version) (first : Version) (last : IsLast published first) where
   -- what is judged is told so once it is published
-  judged_done : {asked : List QueuedUpdate} {verdicts : List Verdict} {made : List Version} {updates : List (List ℕ)} → Judged first asked verdicts made updates
+  judged_done : {asked : List QueuedUpdate} {verdicts : List Verdict} {made : List Version} {updates : List Messages} → Judged first asked verdicts made updates
       → AreDone (published ++ made) (length published) verdicts asked
   judged_done nothing = tt
   judged_done (reported {requests} {verdicts} {made} one code judged is) =

@@ -1,4 +1,5 @@
 -- Turns, one after the other.
+use Rattle.journal.specs.Batch.{Messages}
 use Rattle.std.proofs.Common.{◌≡◌, refl, ℕ, zero, suc, ◌+◌, ◌<◌, List, [], ◌∷◌, ◌++◌, length, Option, None, Some, sym, ap, ◌∙◌, subst, append-nil, append_assoc, length-append, arith}
 use Rattle.std.specs.Prelude.{drop, replicate}
 use Rattle.dns_rdata.specs.Record.{Record}
@@ -9,7 +10,7 @@ use Rattle.update_batches.specs.Batch.{newest_of, Judged}
 use Rattle.update_batches.proofs.BatchLemmas.{last_once, judged_long}
 use Rattle.update_batches.specs.Done.{reply_to, replies_to}
 use Rattle.update_batches.specs.declared.queued_update.QueuedUpdate.{QueuedUpdate}
-use Rattle.update_batches.specs.UpdateRequest.{octets_of}
+use Rattle.update_batches.specs.UpdateRequest.{messages_of}
 use Rattle.zone_tree.specs.Version.{Version}
 use Rattle.update_batches.specs.Replies.{Reply}
 use Rattle.update_batches.specs.Turned.{ThreadState, Lasts, Fails, IsTold, HasTurned, AreAnswered, unasked, lasting, failing, HasServed, IsCrashSafe, uncalled}
@@ -40,9 +41,9 @@ replies_more [] more [] batch long = refl
 replies_more [] more (one ∷ requests) batch long = absurd (omega (arith, long))
 replies_more (verdict ∷ verdicts) more [] batch long = absurd (omega (arith, long))
 replies_more (verdict ∷ verdicts) more (one ∷ requests) batch long =
-    ap (λ (rs : List Reply). reply_to (octets_of one.request) verdict ∷ rs) (replies_more verdicts more requests batch (omega (arith, long)))
+    ap (λ (rs : List Reply). reply_to (messages_of one.request) verdict ∷ rs) (replies_more verdicts more requests batch (omega (arith, long)))
 
-module _ {S : Type 0} (has : List Record → S → List Version → List (List ℕ) → Type 0) (leaves : List Record → S → S → List (List ℕ) → Type 0) where
+module _ {S : Type 0} (has : List Record → S → List Version → List Messages → Type 0) (leaves : List Record → S → S → List Messages → Type 0) where
   -- no turn
   pub served_none : (state : ThreadState S) → HasServed has leaves state state
   served_none state = record {
@@ -56,8 +57,8 @@ module _ {S : Type 0} (has : List Record → S → List Version → List (List �
     answered = λ first last. unasked;
     published = sym (append-nil state.published);
     replied = sym (append-nil state.replied);
-    stored = λ zone stood had. subst (λ (us : List (List ℕ)). has zone state.store state.published us) (sym (append-nil stood)) had;
-    crash = λ zone stood had. subst (λ (us : List (List ℕ)). IsCrashSafe has leaves zone state.store stood state.store state.published us) (sym (append-nil stood)) (uncalled had);
+    stored = λ zone stood had. subst (λ (us : List Messages). has zone state.store state.published us) (sym (append-nil stood)) had;
+    crash = λ zone stood had. subst (λ (us : List Messages). IsCrashSafe has leaves zone state.store stood state.store state.published us) (sym (append-nil stood)) (uncalled had);
   }
 
   -- the lists of two turns
@@ -82,7 +83,7 @@ module _ {S : Type 0} (has : List Record → S → List Version → List (List �
   long_more verdicts more requests batch first then = omega (arith, first, then, length-append verdicts more, length-append requests batch)
 
   -- the version that a batch is judged in is the newest of those that the batches before it make
-  judged_on : (published later versions : List Version) (first last : Version) (batch : List QueuedUpdate) (verdicts : List Verdict) (made : List Version) (updates : List (List ℕ)) → later ≡ published ++ versions
+  judged_on : (published later versions : List Version) (first last : Version) (batch : List QueuedUpdate) (verdicts : List Verdict) (made : List Version) (updates : List Messages) → later ≡ published ++ versions
       → IsLast published first → IsLast later last → Judged last batch verdicts made updates
       → Judged (newest_of first versions) batch verdicts made updates
   judged_on published later versions first last batch verdicts made updates are begins ends judged =
@@ -111,9 +112,9 @@ module _ {S : Type 0} (has : List Record → S → List Version → List (List �
               (judged_on old.published mid.published served.versions first lasts.first turn.batch turn.verdicts lasts.versions lasts.updates served.published last lasts.last lasts.judged);
           published = published;
           replied = replied_more old.replied mid.replied new.replied served.verdicts turn.verdicts served.requests turn.batch served.each served.replied turn.replied;
-          stored = λ zone stood had. subst (λ (us : List (List ℕ)). has zone new.store new.published us) (append_assoc stood served.updates lasts.updates)
+          stored = λ zone stood had. subst (λ (us : List Messages). has zone new.store new.published us) (append_assoc stood served.updates lasts.updates)
               (lasts.stored zone (stood ++ served.updates) (served.stored zone stood had));
-          crash = λ zone stood had. subst (λ (us : List (List ℕ)). IsCrashSafe has leaves zone old.store stood new.store new.published us)
+          crash = λ zone stood had. subst (λ (us : List Messages). IsCrashSafe has leaves zone old.store stood new.store new.published us)
               (append_assoc stood served.updates lasts.updates)
               (safe_both has leaves zone (served.crash zone stood had) (lasts.crash zone (stood ++ served.updates) (served.stored zone stood had)));
         }

@@ -1,4 +1,5 @@
 -- What becomes of a batch that is judged, written to a store and published.
+use Rattle.journal.specs.Batch.{Messages}
 use Rattle.std.proofs.Common.{◌≡◌, refl, ℕ, zero, suc, ◌+◌, ◌<◌, ◌≤◌, List, [], ◌∷◌, ◌++◌, take, map, Option, None, Some, inl, inr, length, ◌⊎◌, sym, ap, ◌∙◌, subst, append-nil, length-append, arith}
 use Rattle.std.specs.Prelude.{replicate, drop, min, MatchOption}
 use Rattle.std.proofs.lemmas.Bool.{cases_lt}
@@ -45,13 +46,13 @@ pub room_left : (left room was : ℕ) (published later : List Version) (updates 
 room_left left room was published later updates used are same =
     omega (arith, used, same, ap length are ∙ length-append published (versions_in updates), versions_long updates)
 
-module _ {S : Type 0} (has : List Record → S → List Version → List (List ℕ) → Type 0) (leaves : List Record → S → S → List (List ℕ) → Type 0) where
+module _ {S : Type 0} (has : List Record → S → List Version → List Messages → Type 0) (leaves : List Record → S → S → List Messages → Type 0) where
   -- calls on a store that is tended before them and after them
-  safe_tended : (zone : List Record) (published later : List Version) (stood updates : List (List ℕ)) (old before after new : S)
+  safe_tended : (zone : List Record) (published later : List Version) (stood updates : List Messages) (old before after new : S)
       → has zone old published stood → has zone before published stood → leaves zone old before stood
       → IsCrashSafe has leaves zone before stood after later updates → has zone after later updates
-      → ((zone : List Record) (versions : List Version) (updates : List (List ℕ)) → has zone after versions updates → has zone new versions updates)
-      → ((zone : List Record) (versions : List Version) (updates : List (List ℕ)) → has zone after versions updates → leaves zone after new updates)
+      → ((zone : List Record) (versions : List Version) (updates : List Messages) → has zone after versions updates → has zone new versions updates)
+      → ((zone : List Record) (versions : List Version) (updates : List Messages) → has zone after versions updates → leaves zone after new updates)
       → IsCrashSafe has leaves zone old stood new later updates
   safe_tended zone published later stood updates old before after new had tended first safe has_after then then_crash =
       safe_same has leaves zone old after new later later stood updates
@@ -64,10 +65,10 @@ module _ {S : Type 0} (has : List Record → S → List Version → List (List �
         (updates kept : List VersionUpdate) (room : ℕ)
         → IsLast published first → IsBatch first batch judged updates room → AreKept fault updates kept judged verdicts
         → MatchOption fault
-        ((zone : List Record) (versions : List Version) (stood : List (List ℕ)) (last : Version) → has zone before versions stood → IsLast versions last
+        ((zone : List Record) (versions : List Version) (stood : List Messages) (last : Version) → has zone before versions stood → IsLast versions last
         → AreMadeBy last (versions_in updates) (updates_of updates) → has zone after (versions ++ versions_in updates) (stood ++ updates_of updates))
-        (λ _. (zone : List Record) (versions : List Version) (stood : List (List ℕ)) → has zone before versions stood → has zone after versions stood)
-        → ((zone : List Record) (versions : List Version) (stood : List (List ℕ)) → has zone before versions stood → leaves zone before after stood)
+        (λ _. (zone : List Record) (versions : List Version) (stood : List Messages) → has zone before versions stood → has zone after versions stood)
+        → ((zone : List Record) (versions : List Version) (stood : List Messages) → has zone before versions stood → leaves zone before after stood)
         → later ≡ published ++ versions_in kept
         → IsTold has leaves published later batch verdicts fault before after
     told_published None first published later batch judged verdicts before after updates kept room last is same stored crash are =
@@ -103,10 +104,10 @@ module _ {S : Type 0} (has : List Record → S → List Version → List (List �
 
     -- a batch of a store that is tended before it and after it
     pub told_tended : (fault : Option F) (published later : List Version) (batch : List QueuedUpdate) (verdicts : List Verdict) (old before after new : S)
-        → ((zone : List Record) (versions : List Version) (updates : List (List ℕ)) → has zone old versions updates → has zone before versions updates)
-        → ((zone : List Record) (versions : List Version) (updates : List (List ℕ)) → has zone old versions updates → leaves zone old before updates)
-        → ((zone : List Record) (versions : List Version) (updates : List (List ℕ)) → has zone after versions updates → has zone new versions updates)
-        → ((zone : List Record) (versions : List Version) (updates : List (List ℕ)) → has zone after versions updates → leaves zone after new updates)
+        → ((zone : List Record) (versions : List Version) (updates : List Messages) → has zone old versions updates → has zone before versions updates)
+        → ((zone : List Record) (versions : List Version) (updates : List Messages) → has zone old versions updates → leaves zone old before updates)
+        → ((zone : List Record) (versions : List Version) (updates : List Messages) → has zone after versions updates → has zone new versions updates)
+        → ((zone : List Record) (versions : List Version) (updates : List Messages) → has zone after versions updates → leaves zone after new updates)
         → IsTold has leaves published later batch verdicts fault before after
         → IsTold has leaves published later batch verdicts fault old new
     told_tended None published later batch verdicts old before after new first first_crash then then_crash lasts = record {

@@ -6,7 +6,8 @@ use Rattle.zone_tree.specs.Version.{Version}
 use Rattle.update_batches.specs.declared.verdict.Verdict.{Verdict}
 use Rattle.update_batches.specs.Verdict.{told_verdict, made_verdict, failed}
 use Rattle.update_batches.specs.declared.queued_update.QueuedUpdate.{QueuedUpdate}
-use Rattle.update_batches.specs.UpdateRequest.{passes, tells, makes, octets_of, serial_in}
+use Rattle.journal.specs.Batch.{Messages}
+use Rattle.update_batches.specs.UpdateRequest.{passes, tells, makes, messages_of, serial_in}
 use Rattle.update_batches.specs.Replies.{Reply}
 
 -- the first of these verdicts, SERVFAIL where there is none (RFC 2136, 2.2)
@@ -14,14 +15,14 @@ abbrev pub first_verdict : List Verdict → Verdict
 first_verdict [] = failed
 first_verdict (verdict ∷ verdicts) = verdict
 
--- the reply to a request of these octets that gets this verdict
-abbrev pub reply_to : List ℕ → Verdict → Reply
-reply_to octets verdict = record { request = octets; code = rcode_number verdict.code }
+-- the reply to a request of these messages that gets this verdict
+abbrev pub reply_to : Messages → Verdict → Reply
+reply_to messages verdict = record { request = messages; code = rcode_number verdict.code }
 
 -- the replies to a batch, each request of it with its verdict, SERVFAIL where there are too few
 abbrev pub replies_to : List Verdict → List QueuedUpdate → List Reply
 replies_to verdicts [] = []
-replies_to verdicts (one ∷ batch) = reply_to (octets_of one.request) (first_verdict verdicts) ∷ replies_to (drop 1 verdicts) batch
+replies_to verdicts (one ∷ batch) = reply_to (messages_of one.request) (first_verdict verdicts) ∷ replies_to (drop 1 verdicts) batch
 
 module _ (published : List Version) (begun : ℕ) where
   -- an update gets a code in one of the versions that are published, which isn't older than the last of the first so many, and makes none of it: its verdict has that version's

@@ -2,6 +2,7 @@
 use Rattle.std.specs.Prelude.{◌≡◌, ◌⊎◌, ◌+◌, ◌<◌, ℕ, List, [], ◌++◌, length, replicate, min, max, Option, MatchOption}
 use Rattle.dns_rdata.specs.Record.{Record}
 use Rattle.zone_tree.specs.Version.{Version}
+use Rattle.journal.specs.Batch.{Messages}
 use Rattle.update_batches.specs.declared.verdict.Verdict.{Verdict}
 use Rattle.update_batches.specs.Verdict.{failed}
 use Rattle.update_batches.specs.declared.queued_update.QueuedUpdate.{QueuedUpdate}
@@ -22,27 +23,27 @@ pub record ThreadState (S : Type 0) : Type 0 where
 abbrev pub state_of : {S : Type 0} → List Version → ℕ → List Reply → S → List QueuedUpdate → ThreadState S
 state_of published room replied store waiting = record { published = published; room = room; replied = replied; store = store; waiting = waiting }
 
--- requests get verdicts from a version on, batch after batch, each batch in the version that those before it make: the versions that they make, and the octets of those that make
+-- requests get verdicts from a version on, batch after batch, each batch in the version that those before it make: the versions that they make, and the messages of those that make
 -- one. A batch lasts; or some of it would change the zone, and it cannot be written: each of it gets SERVFAIL, and makes nothing
-pub data AreAnswered (first : Version) : List QueuedUpdate → List Verdict → List Version → List (List ℕ) → Type 0 where
+pub data AreAnswered (first : Version) : List QueuedUpdate → List Verdict → List Version → List Messages → Type 0 where
   unasked : AreAnswered first [] [] [] []
-  lasting : {requests : List QueuedUpdate} {verdicts : List Verdict} {versions : List Version} {updates : List (List ℕ)} {batch : List QueuedUpdate}
-      {batch_verdicts : List Verdict} {made : List Version} {batch_updates : List (List ℕ)} → AreAnswered first requests verdicts versions updates
+  lasting : {requests : List QueuedUpdate} {verdicts : List Verdict} {versions : List Version} {updates : List Messages} {batch : List QueuedUpdate}
+      {batch_verdicts : List Verdict} {made : List Version} {batch_updates : List Messages} → AreAnswered first requests verdicts versions updates
       → Judged (newest_of first versions) batch batch_verdicts made batch_updates
       → AreAnswered first (requests ++ batch) (verdicts ++ batch_verdicts) (versions ++ made) (updates ++ batch_updates)
-  failing : {requests : List QueuedUpdate} {verdicts : List Verdict} {versions : List Version} {updates : List (List ℕ)} {batch : List QueuedUpdate}
-      {batch_verdicts : List Verdict} {made : List Version} {batch_updates : List (List ℕ)} → AreAnswered first requests verdicts versions updates
+  failing : {requests : List QueuedUpdate} {verdicts : List Verdict} {versions : List Version} {updates : List Messages} {batch : List QueuedUpdate}
+      {batch_verdicts : List Verdict} {made : List Version} {batch_updates : List Messages} → AreAnswered first requests verdicts versions updates
       → Judged (newest_of first versions) batch batch_verdicts made batch_updates → 0 < length made
       → AreAnswered first (requests ++ batch) (verdicts ++ replicate (length batch) failed) versions updates
 
 -- `has` says of a store that, after a zone, it has these updates on the disk, in this order, and that they end at the last of the versions that are published; `leaves`, that a crash
 -- at any moment from one state of a store to another one leaves what a start reads as a zone with these updates first
-module _ {S : Type 0} (has : List Record → S → List Version → List (List ℕ) → Type 0) (leaves : List Record → S → S → List (List ℕ) → Type 0) where
+module _ {S : Type 0} (has : List Record → S → List Version → List Messages → Type 0) (leaves : List Record → S → S → List Messages → Type 0) where
   -- from one state of a store to another one, call after call: after each call the store has the updates that it had, and perhaps more after them; and a crash at any moment during
   -- the call leaves those first that it had when the call began
-  pub data IsCrashSafe (zone : List Record) (old : S) (before : List (List ℕ)) : S → List Version → List (List ℕ) → Type 0 where
+  pub data IsCrashSafe (zone : List Record) (old : S) (before : List Messages) : S → List Version → List Messages → Type 0 where
     uncalled : {published : List Version} → has zone old published before → IsCrashSafe zone old before old published before
-    called : {mid new : S} {versions later : List Version} {updates : List (List ℕ)} (more : List (List ℕ)) → IsCrashSafe zone old before mid versions updates
+    called : {mid new : S} {versions later : List Version} {updates : List Messages} (more : List Messages) → IsCrashSafe zone old before mid versions updates
         → leaves zone mid new updates → has zone new later (updates ++ more) → IsCrashSafe zone old before new later (updates ++ more)
 
   -- each request gets what it gets in the version published last, or in the one that those before it make of that; the updates of those that change the zone are on the disk, and
@@ -50,26 +51,26 @@ module _ {S : Type 0} (has : List Record → S → List Version → List (List �
   pub record Lasts (published later : List Version) (batch : List QueuedUpdate) (verdicts : List Verdict) (before after : S) : Type 0 where
     pub first : Version
     pub versions : List Version
-    pub updates : List (List ℕ)
+    pub updates : List Messages
     pub last : IsLast published first
     pub judged : Judged first batch verdicts versions updates
     pub later_are : later ≡ published ++ versions
-    pub stored : (zone : List Record) (stood : List (List ℕ)) → has zone before published stood → has zone after later (stood ++ updates)
-    pub crash : (zone : List Record) (stood : List (List ℕ)) → has zone before published stood → IsCrashSafe zone before stood after later (stood ++ updates)
+    pub stored : (zone : List Record) (stood : List Messages) → has zone before published stood → has zone after later (stood ++ updates)
+    pub crash : (zone : List Record) (stood : List Messages) → has zone before published stood → IsCrashSafe zone before stood after later (stood ++ updates)
 
   -- some would change the zone, and cannot be written: each of the batch gets SERVFAIL, nothing is published, and what was on the disk is there
   pub record Fails (published later : List Version) (batch : List QueuedUpdate) (verdicts : List Verdict) (before after : S) : Type 0 where
     pub first : Version
     pub judged_verdicts : List Verdict
     pub versions : List Version
-    pub updates : List (List ℕ)
+    pub updates : List Messages
     pub last : IsLast published first
     pub judged : Judged first batch judged_verdicts versions updates
     pub some : 0 < length versions
     pub reported : verdicts ≡ replicate (length batch) failed
     pub later_are : later ≡ published
-    pub stored : (zone : List Record) (stood : List (List ℕ)) → has zone before published stood → has zone after later stood
-    pub crash : (zone : List Record) (stood : List (List ℕ)) → has zone before published stood → IsCrashSafe zone before stood after later stood
+    pub stored : (zone : List Record) (stood : List Messages) → has zone before published stood → has zone after later stood
+    pub crash : (zone : List Record) (stood : List Messages) → has zone before published stood → IsCrashSafe zone before stood after later stood
 
   -- a batch lasts, or fails, for this reason
   abbrev pub IsTold : {F : Type 0} → List Version → List Version → List QueuedUpdate → List Verdict → Option F → S → S → Type 0
@@ -101,9 +102,9 @@ module _ {S : Type 0} (has : List Record → S → List Version → List (List �
     pub verdicts : List Verdict
     pub each : length verdicts ≡ length requests
     pub versions : List Version
-    pub updates : List (List ℕ)
+    pub updates : List Messages
     pub answered : (first : Version) → IsLast old.published first → AreAnswered first requests verdicts versions updates
     pub published : new.published ≡ old.published ++ versions
     pub replied : new.replied ≡ old.replied ++ replies_to verdicts requests
-    pub stored : (zone : List Record) (stood : List (List ℕ)) → has zone old.store old.published stood → has zone new.store new.published (stood ++ updates)
-    pub crash : (zone : List Record) (stood : List (List ℕ)) → has zone old.store old.published stood → IsCrashSafe zone old.store stood new.store new.published (stood ++ updates)
+    pub stored : (zone : List Record) (stood : List Messages) → has zone old.store old.published stood → has zone new.store new.published (stood ++ updates)
+    pub crash : (zone : List Record) (stood : List Messages) → has zone old.store old.published stood → IsCrashSafe zone old.store stood new.store new.published (stood ++ updates)

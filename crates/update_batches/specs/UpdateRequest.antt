@@ -1,10 +1,11 @@
 -- What a requested update does in a version (RFC 2136, 3).
-use Rattle.std.specs.Prelude.{◌≡◌, ℕ, List, None}
+use Rattle.std.specs.Prelude.{◌≡◌, ℕ, None}
 use Rattle.dns_rdata.specs.declared.numbers.Rcode.{Rcode}
 use Rattle.zone_tree.specs.Version.{Version, zone_serial}
 use Rattle.update_core.specs.Verdict.{verdict}
 use Rattle.dns_engine.specs.Versions.{Makes}
 use Rattle.dns_engine.specs.Outcomes.{Tells}
+use Rattle.journal.specs.Batch.{Messages}
 use Rattle.update_batches.specs.declared.update_request.UpdateRequest.{UpdateRequest}
 
 -- no rule gives it a code
@@ -23,6 +24,6 @@ makes version asked next = Makes asked.update version next
 abbrev pub serial_in : Version → ℕ
 serial_in version = zone_serial version.zone
 
--- its octets, as they were received
-abbrev pub octets_of : UpdateRequest → List ℕ
-octets_of asked = asked.octets.items
+-- its messages
+abbrev pub messages_of : UpdateRequest → Messages
+messages_of asked = asked.messages

@@ -1,6 +1,8 @@
 //! Updates judged one after another, in versions that nobody sees yet (RFC 2136, 3; own).
-ghost use Rattle.std.specs.Prelude.{◌≡◌, ◌≤◌, ◌<◌, ◌^◌, List, [], ◌∷◌, ◌++◌, length, vec_capacity, MatchBool};
-ghost use Rattle.update_batches.specs.Batch.{newest_of, versions_in, IsBatch};
+ghost use Rattle.std.specs.Prelude.{◌≡◌, ◌≤◌, ◌<◌, ◌↔◌, List, [], ◌∷◌, ◌++◌, IsTrue, length, vec_capacity, MatchBool};
+ghost use Rattle.journal.specs.Batch.{batch_of};
+ghost use Rattle.journal.specs.Frame.{body_limit};
+ghost use Rattle.update_batches.specs.Batch.{newest_of, versions_in, updates_of, IsBatch};
 ghost use Rattle.update_batches.specs.declared.queued_update.QueuedUpdate.{QueuedUpdate as Queued};
 ghost use Rattle.update_batches.specs.declared.verdict.Verdict.{Verdict as VerdictOf};
 ghost use Rattle.update_batches.specs.declared.version_update.VersionUpdate.{VersionUpdate as Made};
@@ -9,12 +11,13 @@ use crate::queued_update::QueuedUpdate;
 use crate::verdict::Verdict;
 use crate::version_update::VersionUpdate;
 use dns_engine::{Judged, SharedVersion, judge};
+use journal::{BODY_LIMIT, RequestMessages};
 use std::alloc::Global;
 
 /// How many updates of a batch make a version at most.
 pub const MOST: usize = 64;
 
-/// Judges updates in a version, each in the version that those before it make, of which at most `room` make one. Gives the updates that make a version, and puts the verdict of
+/// Judges updates in a version, each in the version that those before it make, of which at most `room` make one, and a frame takes the batch of these. Gives the updates that make a version, and puts the verdict of
 /// each update into `verdicts`, in place of what was there. Allocates memory for what they make; an update for which there is none gets SERVFAIL.
 pub fn judge_batch(
     alloc: Global,
@@ -54,7 +57,7 @@ fn judge_one(
         Judged::Starved => Verdict::failed(),
         Judged::Made(next) => {
             let made = Verdict::made(before, next.get().serial());
-            if put(alloc, updates, next, one.request.octets(), room) {
+            if put(alloc, updates, next, one.request.messages(), room) {
                 made
             } else {
                 Verdict::failed()
@@ -73,23 +76,45 @@ fn newest_of<'a>(first: &'a SharedVersion, updates: &'a [VersionUpdate]) -> &'a 
     }
 }
 
-/// Adds a version, with the bytes of its update. Gives whether there were fewer than `room`, and memory for both; otherwise nothing is added.
+/// How many octets the batch of these updates has.
+fn batch_len(updates: &[VersionUpdate]) -> usize
+    requires { length (batch_of (updates_of updates.now)) < body_limit }
+    ensures { result ≡ length (batch_of (updates_of updates.now)) }
+{
+    let mut len = 0usize;
+    for update in updates {
+        len = len.saturating_add(update.messages().batch_len());
+    }
+    len
+}
+
+/// Whether a frame takes the batch of these updates and of one more, with these messages.
+fn is_taken(updates: &[VersionUpdate], messages: &RequestMessages) -> bool
+    requires { length (batch_of (updates_of updates.now)) < body_limit }
+    ensures { IsTrue result ↔ (length (batch_of (updates_of updates.now ++ messages.now ∷ [])) < body_limit) }
+{
+    batch_len(updates).saturating_add(messages.batch_len()) < BODY_LIMIT
+}
+
+/// Adds a version, with the messages of its update. Gives whether there were fewer than `room`, a frame takes the longer batch, and there was memory for both; otherwise
+/// nothing is added.
 fn put(
     alloc: Global,
     updates: &mut Vec<VersionUpdate>,
     next: SharedVersion,
-    octets: &[u8],
+    messages: &RequestMessages,
     room: usize,
 ) -> bool
-    requires { length octets.now < 2 ^ 16 }
-    ensures { MatchBool result
-        ((update : Made) × (updates.new.items ≡ updates.old.items ++ update ∷ []) × (update.version ≡ next) × (update.octets.items ≡ octets.now) × (length updates.old.items < room))
+    requires { length (batch_of (updates_of updates.old.items)) < body_limit }
+    ensures put { MatchBool result
+        ((update : Made) × (updates.new.items ≡ updates.old.items ++ update ∷ []) × (update.version ≡ next) × (update.messages ≡ messages.now) × (length updates.old.items < room))
         (updates.new.items ≡ updates.old.items) }
+    ensures short { length (batch_of (updates_of updates.new.items)) < body_limit }
 {
-    if updates.len() >= room {
+    if updates.len() >= room || !is_taken(updates, messages) {
         return false;
     }
-    let Ok(update) = VersionUpdate::of(alloc, next, octets) else {
+    let Ok(update) = VersionUpdate::of(alloc, next, messages) else {
         return false;
     };
     if updates.push(update).is_err() {

@@ -3,7 +3,8 @@
 //! A [`Queue`] has the updates that wait: any thread puts into it, one thread takes from it, many at a time, and one ends it. It has at most so many items and so many octets; what
 //! finds no room comes back at once, so that no thread that puts waits for the update thread.
 //!
-//! An [`UpdateRequest`] is an update with the octets that it was read from, which are what a journal keeps: a start reads them again in the same way. A [`QueuedUpdate`] has the
+//! An [`UpdateRequest`] is an update with the messages that it was read from, which are what a journal keeps: a start reads them again in the same way. Over the network an update is one
+//! message; one that the server makes itself may have more. A [`QueuedUpdate`] has the
 //! destination of its reply too.
 //!
 //! An [`UpdateThread`] takes the updates that wait, judges them one after another in versions that nobody sees yet ([`judge_batch`]), writes those that change the zone to an

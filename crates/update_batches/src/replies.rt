@@ -3,6 +3,7 @@ ghost use Rattle.std.specs.Prelude.{◌≡◌, List, [], ◌∷◌, ◌++◌};
 ghost use Rattle.std.specs.Borrow.{ftrue};
 ghost use Rattle.update_batches.specs.Replies.{Reply, reply_of};
 
+use journal::RequestMessages;
 use std::marker::{Model, PhantomData};
 
 /// What requests were told, the first one first. No memory holds it.
@@ -27,8 +28,8 @@ impl ReplyList {
         }
     }
 
-    /// One reply more: its code, as the first of numbers, and the octets of its request.
-    pub fn note(&mut self, _numbers: &[u64], _octets: &[u8])
-        ensures { self.new.replies ≡ self.old.replies ++ reply_of _numbers.now _octets.now ∷ [] }
+    /// One reply more: its code, as the first of numbers, and the messages of its request.
+    pub fn note(&mut self, _numbers: &[u64], _messages: &RequestMessages)
+        ensures { self.new.replies ≡ self.old.replies ++ reply_of _numbers.now _messages.now ∷ [] }
     {}
 }

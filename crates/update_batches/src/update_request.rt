@@ -1,65 +1,70 @@
 //! An update that is asked for (RFC 2136, 2).
-ghost use Rattle.std.specs.Prelude.{◌≡◌, ◌<◌, ◌≤◌, ◌^◌, length, MatchOption};
+ghost use Rattle.std.specs.Prelude.{◌≡◌, ◌≤◌, ◌^◌, [], ◌∷◌, length, MatchOption};
 ghost use Rattle.dns_message.specs.Request.{reads};
 ghost use Rattle.dns_message.specs.declared.query.Parsed.TheVariants.{Update as Says};
+ghost use Rattle.update_messages.specs.Joined.{IsRead};
 
 use dns_message::Update;
+use journal::RequestMessages;
+use std::alloc::Global;
 
-/// How many octets an update has at most, as it was received: what two octets count (RFC 1035, 4.2.2).
-const MOST: usize = 65_535;
-
-/// An update that is asked for: as it is read, with the octets that it was read of, and whether its peer may update.
+/// An update that is asked for: as it is read, with the messages that it was read of, and whether its peer may update.
 pub struct UpdateRequest {
     /// The update.
     pub(crate) update: Update,
-    /// Its octets.
-    pub(crate) octets: Vec<u8>,
+    /// Its messages.
+    pub(crate) messages: RequestMessages,
     /// Whether its peer may update.
     pub(crate) may: bool,
-    ghost read: { reads octets.items ≡ Says update },
-    ghost short: { length octets.items < 2 ^ 16 },
+    ghost read: { IsRead messages update },
 }
 
 impl Drop for UpdateRequest {
     fn drop(self) {
         let UpdateRequest {
             update: _,
-            octets: _,
+            messages: _,
             may: _,
         } = self;
     }
 }
 
 impl UpdateRequest {
-    /// An update that was read of these octets, sent by a peer that may update, or may not. None where they are more than 65,535.
-    pub fn of(update: Update, octets: Vec<u8>, may: bool) -> Option<UpdateRequest>
+    /// An update that was read of one message of these octets, sent by a peer that may update, or may not. None where they are more than 65,535.
+    #[tactic(auto, using(update_messages::proofs::JoinedLemmas::one_read))]
+    pub fn of(alloc: Global, update: Update, octets: Vec<u8>, may: bool) -> Option<UpdateRequest>
         requires { reads octets.items ≡ Says update }
-        ensures { MatchOption result (2 ^ 16 ≤ length octets.items) (λ asked. (asked.update ≡ update) × (asked.octets ≡ octets) × (asked.may ≡ may)) }
+        ensures { MatchOption result (2 ^ 16 ≤ length octets.items) (λ asked. (asked.update ≡ update) × (asked.messages ≡ octets.items ∷ []) × (asked.may ≡ may)) }
     {
-        if octets.len() > MOST {
-            return None;
-        }
-        Some(UpdateRequest {
+        let messages = RequestMessages::one(alloc, octets)?;
+        Some(UpdateRequest::joined(update, messages, may))
+    }
+
+    /// An update that was read of these messages, of a peer that may update, or may not.
+    pub fn joined(update: Update, messages: RequestMessages, may: bool) -> UpdateRequest
+        requires { IsRead messages update }
+        ensures { (result.update ≡ update) × (result.messages ≡ messages) × (result.may ≡ may) }
+    {
+        UpdateRequest {
             update,
-            octets,
+            messages,
             may,
-        })
+        }
     }
 
     /// The update.
     pub fn update(&self) -> &Update
         ensures update { result.now ≡ self.now.update }
-        ensures read { reads self.now.octets.items ≡ Says result.now }
+        ensures read { IsRead self.now.messages result.now }
     {
         &self.update
     }
 
-    /// Its octets, as they were received.
-    pub fn octets(&self) -> &[u8]
-        ensures octets { result.now ≡ self.now.octets.items }
-        ensures short { length result.now < 2 ^ 16 }
+    /// Its messages.
+    pub fn messages(&self) -> &RequestMessages
+        ensures { result.now ≡ self.now.messages }
     {
-        &self.octets
+        &self.messages
     }
 
     /// Whether its peer may update.

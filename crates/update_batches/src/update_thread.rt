@@ -1,7 +1,9 @@
 //! The thread that judges updates, batch after batch (RFC 2136, 3 and 3.5).
-ghost use Rattle.std.specs.Prelude.{◌≡◌, ◌≤◌, ◌<◌, ◌+◌, [], ◌++◌, ℕ, List, length, replicate, vec_capacity, min, max, MatchOption, IfOk, IfErr, OnOk, OnErr};
+ghost use Rattle.std.specs.Prelude.{◌≡◌, ◌≤◌, ◌<◌, ◌+◌, [], ◌++◌, List, length, replicate, vec_capacity, min, max, MatchOption, IfOk, IfErr, OnOk, OnErr};
 ghost use Rattle.dns_rdata.specs.Record.{Record};
 ghost use Rattle.zone_tree.specs.Version.{Version};
+ghost use Rattle.journal.specs.Batch.{Messages, batch_of};
+ghost use Rattle.journal.specs.Frame.{body_limit};
 ghost use Rattle.update_batches.specs.Engine.{IsLast};
 ghost use Rattle.update_batches.specs.declared.queued_update.QueuedUpdate.{QueuedUpdate as Queued};
 ghost use Rattle.update_batches.specs.Verdict.{failed};
@@ -177,15 +179,15 @@ fn keep<R: Wait, S: UpdateStore>(
     updates: Vec<VersionUpdate>,
     verdicts: &mut Vec<Verdict>,
 ) -> (Vec<VersionUpdate>, Option<S::Fault>)
-    requires few { length updates.items ≤ 64 }
+    requires short { length (batch_of (updates_of updates.items)) < body_limit }
     ensures kept { MatchOption result.1
         ((result.0.items ≡ updates.items) × (verdicts.new.items ≡ verdicts.old.items))
         (λ _. (result.0.items ≡ []) × (verdicts.new.items ≡ replicate (length verdicts.old.items) failed) × (0 < length updates.items)) }
     ensures stored { MatchOption result.1
-        ((zone : List Record) (versions : List Version) (stood : List (List ℕ)) (last : Version) → S.has zone store.old versions stood → IsLast versions last
+        ((zone : List Record) (versions : List Version) (stood : List Messages) (last : Version) → S.has zone store.old versions stood → IsLast versions last
         → AreMadeBy last (versions_in updates.items) (updates_of updates.items) → S.has zone store.new (versions ++ versions_in updates.items) (stood ++ updates_of updates.items))
-        (λ _. (zone : List Record) (versions : List Version) (stood : List (List ℕ)) → S.has zone store.old versions stood → S.has zone store.new versions stood) }
-    ensures crash { (zone : List Record) (versions : List Version) (stood : List (List ℕ)) → S.has zone store.old versions stood → S.leaves zone store.old store.new stood }
+        (λ _. (zone : List Record) (versions : List Version) (stood : List Messages) → S.has zone store.old versions stood → S.has zone store.new versions stood) }
+    ensures crash { (zone : List Record) (versions : List Version) (stood : List Messages) → S.has zone store.old versions stood → S.leaves zone store.old store.new stood }
     ensures verdicts_room { vec_capacity verdicts.new ≡ vec_capacity verdicts.old }
 {
     match store.append(rt, alloc, &updates) {

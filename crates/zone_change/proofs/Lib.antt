@@ -10,3 +10,4 @@ pub mod UpdateLemmas
 pub mod RecordsLemmas
 pub mod ServerLemmas
 pub mod FirstLemmas
+pub mod MessagesLemmas

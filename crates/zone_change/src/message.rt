@@ -11,7 +11,7 @@ use dns_rdata::RawRecord;
 use std::alloc::{AllocError, Global};
 
 /// The most octets of a message (RFC 1035, 4.2.2).
-const MAX_MESSAGE: usize = 65535;
+pub(crate) const MAX_MESSAGE: usize = 65535;
 
 /// The octets of an update whose id is 0 and that has no OPT, as one message. Each owner is its labels before the zone's name, and a
 /// pointer to that name in the zone section; the names in data are in full (RFC 1035, 4.1.3 and 4.1.4; RFC 2136, 2).
@@ -45,7 +45,11 @@ fn octets_of(alloc: Global, update: &Update) -> Result<Vec<u8>, AllocError>
 }
 
 /// The header, with these counts of prerequisites and of updates, the last 16 bits of each: a message of more is too long.
-fn head_of(alloc: Global, prerequisites: usize, updates: usize) -> Result<Vec<u8>, AllocError>
+pub(crate) fn head_of(
+    alloc: Global,
+    prerequisites: usize,
+    updates: usize,
+) -> Result<Vec<u8>, AllocError>
     ensures { IfOk result (λ head. head.items ≡ head_octets prerequisites updates) }
 {
     let mut head = b"\0\0\x28\0\0\x01".to_vec(alloc)?;
@@ -63,7 +67,7 @@ fn two_octets(number: usize) -> [u8; 2]
 }
 
 /// Puts the zone section at the end of a message.
-fn put_zone(to: &mut Vec<u8>, zone: &ZoneEntry) -> Result<(), AllocError>
+pub(crate) fn put_zone(to: &mut Vec<u8>, zone: &ZoneEntry) -> Result<(), AllocError>
     ensures { OnOk result (to.new.items ≡ to.old.items ++ zone_octets zone.now) }
 {
     to.extend_from_slice(zone.name.wire())?;
@@ -72,7 +76,11 @@ fn put_zone(to: &mut Vec<u8>, zone: &ZoneEntry) -> Result<(), AllocError>
 }
 
 /// Puts records at the end of a message.
-fn put_records(to: &mut Vec<u8>, zone: &Name, raws: &[RawRecord]) -> Result<(), AllocError>
+pub(crate) fn put_records(
+    to: &mut Vec<u8>,
+    zone: &Name,
+    raws: &[RawRecord],
+) -> Result<(), AllocError>
     ensures { OnOk result (to.new.items ≡ to.old.items ++ flat_map (record_octets zone.now) raws.now) }
 {
     for raw in raws {

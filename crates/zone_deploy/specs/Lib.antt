@@ -1,4 +1,3 @@
 pub mod Exchanges
 pub mod Replies
 pub mod Signatures
-pub mod Summary

@@ -27,6 +27,9 @@ use Rattle.zone_replies.specs.State.{PendingState, HandlerState}
 use Rattle.zone_server.specs.declared.answer.UpdateOutcome.{UpdateOutcome}
 use Rattle.dns_rdata.specs.declared.numbers.Rcode.{Rcode}
 use Rattle.dns_message.specs.Octets.{fit}
+use Rattle.journal.specs.Batch.{Messages}
+use Rattle.update_messages.specs.Joined.{IsRead}
+use Rattle.update_messages.proofs.JoinedLemmas.{read_alone}
 use Rattle.serve_core.specs.Heading.{heading_of_update, coded}
 use Rattle.serve_core.specs.Transport.{limit_of}
 use Rattle.zone_replies.specs.PendingUpdates.{known_at, place_in, IsTakenUp, AreTakenUp, IsLater, IsToldAt, IsWritten}
@@ -64,11 +67,12 @@ module _ (first : List Record) (peer : Peer) (taken : List (Option PendingState)
       still_replied first peer (learned_by one.known) (learned_by before) (learned_by after) request (take len out ∷ []) is.grown
       (unheard_replied first peer before after meets.0 request out done.asked.update len meets.1 reading late.1)
 
-  pub taken_replied : AreTakenUp taken before → place_in taken key ≡ Some place → MeetsAt first before after number → IsDone first after.seen done → done.asked.octets.items ≡ request → done.asked.may ≡ true → peer.may_update ≡ true
+  pub taken_replied : AreTakenUp taken before → place_in taken key ≡ Some place → MeetsAt first before after number → IsDone first after.seen done → done.asked.messages ≡ request ∷ [] → done.asked.may ≡ true → peer.may_update ≡ true
       → IsWritten peer place done (take len out) → IsReplied first peer (known_at taken before key) (learned_by after) request (take len out ∷ [])
-  taken_replied all here meets reported octets may permitted written =
+  taken_replied all here meets reported alone may permitted written =
       let one = place_known taken before key place all here in
-      let reading : reads request ≡ SaysUpdate done.asked.update = subst (λ (o : List ℕ). reads o ≡ SaysUpdate done.asked.update) octets done.asked.read in
+      let reading : reads request ≡ SaysUpdate done.asked.update =
+      read_alone request done.asked.update (subst (λ (ms : Messages). IsRead ms done.asked.update) alone done.asked.read) in
       subst (λ (l : Learned Version). IsReplied first peer l (learned_by after) request (take len out ∷ [])) (sym one.1)
       (by_one one.0 one.2 one.3 meets reported reading (may ∙ sym permitted) written)
 

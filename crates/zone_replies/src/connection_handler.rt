@@ -325,7 +325,7 @@ impl<'a, 's, Z: FirstZone, N: ServerName, L: ServiceLog> ConnectionHandler<'a, '
         let Poll::Ready(done) = fetched else {
             return None;
         };
-        if done.asked.may() && done.asked.octets() == request {
+        if done.asked.may() && done.asked.messages().is_one(request) {
             return Some(Reply::One(self.reply_done(rt, place, done, out)));
         }
         None

@@ -13,6 +13,9 @@ use Rattle.dns_engine.specs.Versions.{IsFirst, IsNext}
 use Rattle.dns_engine.specs.Held.{IsLatest}
 use Rattle.std.proofs.lemmas.List.{take_all}
 use Rattle.dns_engine.proofs.ReplayLemmas.{number_of, latest_replay}
+use Rattle.journal.specs.Batch.{Messages}
+use Rattle.update_messages.specs.Joined.{IsRead}
+use Rattle.update_messages.proofs.JoinedLemmas.{read_alone}
 use Rattle.update_batches.specs.declared.update_request.UpdateRequest.{UpdateRequest}
 use Rattle.update_batches.specs.declared.verdict.Verdict.{Verdict}
 use Rattle.update_batches.specs.Verdict.{serials_with, told_verdict, made_verdict, failed}
@@ -44,14 +47,15 @@ front_latest first front newer version history =
     let own = front_history first front newer version history in
     record { before = front; history = own; ends = refl; number = sym (number_of first front version own) }
 
--- the message with the code of a result is the reply to its update
+-- the message with the code of a result is the reply to its update, where that is one message
 reply_told : (first : List Record) (seen : List Version) (number : ℕ) (asked : UpdateRequest) (given : Verdict) → IsDoneBy first seen asked number given.code given.serials
-    → reads asked.octets.items ≡ SaysUpdate asked.update → asked.may ≡ true → IsReplyTo first seen (number + 1) asked.octets.items (coded_reply asked given.code)
-reply_told first seen number asked given done reading may = λ peer known udp may_update fresh.
+    → IsRead asked.messages asked.update → asked.may ≡ true → (request : List ℕ) → asked.messages ≡ request ∷ [] → IsReplyTo first seen (number + 1) request (coded_reply asked given.code)
+reply_told first seen number asked given done read may = λ request alone peer known udp may_update fresh.
+    let reading : reads request ≡ SaysUpdate asked.update = read_alone request asked.update (subst (λ (ms : Messages). IsRead ms asked.update) alone read) in
     let octets : List ℕ = coded_reply asked given.code in
     let whole : take (length octets) octets ≡ octets = take_all (length octets) octets (omega arith) in
-    subst (λ (o : List ℕ). IsReplied first peer known (record { published = seen; buried = [] }) asked.octets.items (o ∷ [])) whole
-    (done_replied first peer known (record { published = seen; buried = [] }) asked.octets.items octets (length octets)
+    subst (λ (o : List ℕ). IsReplied first peer known (record { published = seen; buried = [] }) request (o ∷ [])) whole
+    (done_replied first peer known (record { published = seen; buried = [] }) request octets (length octets)
     (record { asked = asked; least = number; code = given.code; serials = given.serials })
     done fresh reading (may ∙ sym may_update) (whole ∙ ap (λ (t : Transport). fit (coded (heading_of_update asked.update) given.code) (limit_of t None)) (sym udp)))
 

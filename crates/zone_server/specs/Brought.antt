@@ -70,8 +70,8 @@ abbrev pub all_brought : List Verdict → List QueuedUpdate → List Brought
 all_brought verdicts [] = []
 all_brought verdicts (one ∷ batch) = brought_by one.reply_to one.request (first_verdict verdicts).code ∷ all_brought (drop 1 verdicts) batch
 
--- the message with the code of its verdict is the reply by datagram to each update of a batch
+-- the message with the code of its verdict is the reply by datagram to each update of a batch that is one message
 abbrev pub AreReplies : List Record → List Version → ℕ → List Verdict → List QueuedUpdate → Type 0
 AreReplies first seen begun verdicts [] = Unit {0}
 AreReplies first seen begun verdicts (one ∷ batch) =
-    IsReplyTo first seen begun one.request.octets.items (coded_reply one.request (first_verdict verdicts).code) × AreReplies first seen begun (drop 1 verdicts) batch
+    ((octets : List ℕ) → one.request.messages ≡ octets ∷ [] → IsReplyTo first seen begun octets (coded_reply one.request (first_verdict verdicts).code)) × AreReplies first seen begun (drop 1 verdicts) batch

@@ -7,6 +7,7 @@ use Rattle.dns_message.specs.Request.{is_update, reads}
 use Rattle.zone_tree.specs.Version.{Version}
 use Rattle.snapshot_cell.specs.Tokens.{ReaderState}
 use Rattle.dns_engine.specs.Held.{EngineState}
+use Rattle.journal.specs.Batch.{octets_in}
 use Rattle.update_batches.specs.declared.update_request.UpdateRequest.{UpdateRequest}
 use Rattle.serve_core.specs.declared.peer.Peer.{Peer}
 use Rattle.serve_core.specs.declared.heading.Heading.{Heading}
@@ -24,9 +25,9 @@ use Rattle.zone_server.specs.declared.submit.DatagramSubmitted.TheVariants.{Repl
 use Rattle.zone_server.specs.declared.answer.UpdateOutcome.{UpdateOutcome}
 use Rattle.zone_server.specs.Updated.{IsToldUnread}
 
--- how many bytes of memory a queued update is counted for: those received, and 320 for each record read from them (own)
+-- how many bytes of memory a queued update is counted for: those of its messages, and 320 for each record read from them (own)
 abbrev pub memory_of : UpdateRequest → ℕ
-memory_of asked = length asked.octets.items + (length asked.update.prerequisites + length asked.update.updates) * 320
+memory_of asked = octets_in asked.messages + (length asked.update.prerequisites + length asked.update.updates) * 320
 
 -- a reader meets everything published, whose last version has this number, without a grant (own)
 abbrev pub MeetsAt : List Record → ReaderState Version → ReaderState Version → ℕ → Type 0

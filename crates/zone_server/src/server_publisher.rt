@@ -90,7 +90,10 @@ fn take_results(
     let mut left = verdicts;
     for update in requests.drain(..count) {
         let (verdict, rest) = first_verdict(left);
-        replied.note(&[u64::from(verdict.code.number())], update.request.octets());
+        replied.note(
+            &[u64::from(verdict.code.number())],
+            update.request.messages(),
+        );
         results.push_reserved(QueuedResult::of(update, verdict, least));
         left = rest;
     }

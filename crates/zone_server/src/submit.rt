@@ -1,5 +1,5 @@
 //! Submitting updates to the update thread, which judges them and makes them survive a restart (RFC 2136, 3 and 3.5).
-ghost use Rattle.std.specs.Prelude.{◌≡◌, ◌-◌, ◌^◌, ◌≤◌, true, length, take, min, None, IfSome};
+ghost use Rattle.std.specs.Prelude.{◌≡◌, ◌-◌, ◌^◌, ◌≤◌, true, [], ◌∷◌, length, take, min, None, IfSome};
 ghost use Rattle.dns_rdata.specs.declared.numbers.Rcode.TheVariants.{ServFail};
 ghost use Rattle.dns_message.specs.Octets.{fit};
 ghost use Rattle.serve_core.specs.Heading.{heading_of_update, coded};
@@ -60,10 +60,10 @@ pub enum DatagramSubmitted {
 /// An update that was read, with its bytes, of a peer that may update. None if there is no memory for them.
 fn asked_of(alloc: Global, update: Update, request: &[u8]) -> Option<UpdateRequest>
     requires { reads request.now ≡ SaysUpdate update }
-    ensures { IfSome result (λ asked. (asked.update ≡ update) × (asked.octets.items ≡ request.now) × (asked.may ≡ true)) }
+    ensures { IfSome result (λ asked. (asked.update ≡ update) × (asked.messages ≡ request.now ∷ []) × (asked.may ≡ true)) }
 {
     let octets = request.to_vec(alloc).ok()?;
-    UpdateRequest::of(update, octets, true)
+    UpdateRequest::of(alloc, update, octets, true)
 }
 
 /// How many bytes of memory one record of an update is counted for: its size once it is read, with room for an owner of the longest name (own).
@@ -81,7 +81,7 @@ fn memory_of(asked: &UpdateRequest) -> usize
         .saturating_add(update.updates.as_slice().len());
     records
         .saturating_mul(RECORD)
-        .saturating_add(asked.octets().len())
+        .saturating_add(asked.messages().octet_count())
 }
 
 /// Puts an update into the queue: the queue's receipt, or None if it has no room for it or there is no memory.

@@ -7,7 +7,8 @@ use Rattle.journal.specs.Frame.{frames_of}
 use Rattle.journal.specs.Tail.{IsTail}
 use Rattle.journal.specs.Head.{head_of, IsText}
 use Rattle.journal.specs.Recovered.{AreBatches, IsRefusedBatch}
-use Rattle.journal.proofs.StartLemmas.{read_long, damaged_from, no_batch_from, recovered_from}
+use Rattle.journal.specs.Batch.{Messages}
+use Rattle.journal.proofs.StartLemmas.{requests_now, read_long, damaged_from, no_batch_from, recovered_from}
 use Rattle.journal.proofs.TailLemmas.{shown_within}
 use Rattle.journal.proofs.start.recover_counted.Goals as goal
 use Rattle.journal.proofs.start.recover_counted.Goals.{in-Blank, in-Torn}
@@ -34,7 +35,7 @@ pub returns-clause-recovered : goal.returns-clause-recovered
 returns-clause-recovered c =
     let head = c.in_ok-head.ensures.read in
     let bodies : List (List ℕ) = map (λ (b : Bor (List ℕ)). b.now) c.in_ok-bodies.bodies.items in
-    let updates : List (List ℕ) = map (λ (u : Bor (List ℕ)). u.now) c.in_ok-updates.updates.items in
+    let updates : List Messages = requests_now c.in_ok-updates.updates.items in
     let count : c.len-number.result ≡ length c.in_ok-bodies.bodies.items = omega (arith, c.len-number.ensures, c.in_ok-bodies.bodies.ok.0) in
     let same : IsText c.in_ok-head.head.text c.args.text.now = search rules in
     let all = (c.in_ok-updates.ensures).ok in

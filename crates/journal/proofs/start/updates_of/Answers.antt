@@ -1,4 +1,5 @@
-use Rattle.std.proofs.Common.{◌<◌, ◌++◌, length, ap, ◌∙◌}
+use Rattle.std.proofs.Common.{◌<◌, length, refl}
+use Rattle.std.proofs.lemmas.Slice.{pushed}
 use Rattle.journal.proofs.StartLemmas.{one_batch_more, no_batch_at, told_some, told_none}
 use Rattle.journal.proofs.start.updates_of.Goals as goal
 
@@ -11,6 +12,5 @@ returns-in-None-clause-refused c =
 pub loop-number-preserved : goal.loop-number-preserved
 loop-number-preserved c =
     let some = told_some _ _ _ _ c.in-Some.is c.in_ok-batch.ensures in
-    one_batch_more c.args.bodies.now c.loop-number.number _ c.loop-number.updates.items c.extend_from_slice.new.self.items c.in-Some.batch.items
-    c.loop-number.invariant c.loop-number-test.true some
-    ((c.in_ok-extend_from_slice-in-Some.ensures).items ∙ ap (λ xs. c.loop-number.updates.items ++ xs) c.deref.ensures.value)
+    one_batch_more c.args.bodies.now c.loop-number.number _ c.loop-number.updates.items c.append.new.self.items c.in-Some.batch.items
+    c.loop-number.invariant c.loop-number-test.true some (pushed c.in-Some.batch.items refl c.in_ok-append-in-Some.was c.append.ensures.items)

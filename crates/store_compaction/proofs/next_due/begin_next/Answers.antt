@@ -3,6 +3,7 @@ use Rattle.std.proofs.Common.{ℕ, List, Some, inl, inr, ap, ◌∙◌}
 use Rattle.std.specs.Prelude.{IfSome}
 use Rattle.dns_rdata.specs.Record.{Record}
 use Rattle.dns_message.specs.declared.update.Update.{Update}
+use Rattle.journal.specs.Batch.{Messages}
 use Rattle.journal.specs.declared.heads.Head.{Head}
 use Rattle.store_compaction.specs.End.{IsEndOf}
 use Rattle.store_compaction.specs.Marked.{IsMarked}
@@ -17,7 +18,7 @@ returns-in-Ok-clause-is_present g c text batches zone updates k =
     let new = c.begin_compaction.new.self in
     let next = c.in-Ok-Some.next in
     let begins : Begins (trail_of old) (last_of old) next (under_way_of new) = rw c.in-Ok-Some.field-0-is at c.in-Ok-Some.ensures.begun in
-    let marked : (text : List ℕ) (head : Head) (batches : List (List (List ℕ))) (zone : List Record) (updates : List Update) (k : ℕ)
+    let marked : (text : List ℕ) (head : Head) (batches : List (List Messages)) (zone : List Record) (updates : List Update) (k : ℕ)
     → IsEndOf text head batches zone updates (trail_of old) k → IfSome (under_way_of new) (IsMarked k batches) = rw c.in-Ok-Some.field-0-is at c.in-Ok-Some.ensures.marked in
     begun_stands old new (g.T.TextWriter.wanted c.args.texts.now) (g.T.TextWriter.wanted c.write.new.self) next (last_of old) (inl (c.in-Ok.ensures.begun ∙ ap (λ h. Some (wanted_of next h)) c.head.ensures))
     c.begin_compaction.ensures.trail c.begin_compaction.ensures.head c.begin_compaction.ensures.log begins text batches zone updates k
@@ -29,7 +30,7 @@ returns-in-Err-clause-is_present g c text batches zone updates k =
     let new = c.begin_compaction.new.self in
     let next = c.in-Ok-Some.next in
     let begins : Begins (trail_of old) (last_of old) next (under_way_of new) = rw c.in-Ok-Some.field-0-is at c.in-Ok-Some.ensures.begun in
-    let marked : (text : List ℕ) (head : Head) (batches : List (List (List ℕ))) (zone : List Record) (updates : List Update) (k : ℕ)
+    let marked : (text : List ℕ) (head : Head) (batches : List (List Messages)) (zone : List Record) (updates : List Update) (k : ℕ)
     → IsEndOf text head batches zone updates (trail_of old) k → IfSome (under_way_of new) (IsMarked k batches) = rw c.in-Ok-Some.field-0-is at c.in-Ok-Some.ensures.marked in
     begun_stands old new (g.T.TextWriter.wanted c.args.texts.now) (g.T.TextWriter.wanted c.write.new.self) next (last_of old) (inr c.in-Err.ensures.none)
     c.begin_compaction.ensures.trail c.begin_compaction.ensures.head c.begin_compaction.ensures.log begins text batches zone updates k

@@ -1,10 +1,11 @@
 use Rattle.journal.proofs.StartLemmas.{told_some}
-use Rattle.store_recovery.specs.Replay.{IsRead}
+use Rattle.std.proofs.Common.{map}
+use Rattle.update_messages.specs.Joined.{IsRead}
 use Rattle.store_recovery.proofs.replayed.next_version.Goals as goal
 
 pub returns-in-Next : goal.returns-in-Next
 returns-in-Next c =
-    let read : IsRead c.args.octets.now c.in-Some.update = told_some _ _ _ _ c.in-Some.is c.in_ok-update.ensures in
+    let read : IsRead (map (λ message. message.now) c.args.messages.now) c.in-Some.update = told_some _ _ _ _ c.in-Some.is c.in_ok-update.ensures in
     let reported = c.in-Next.ensures.reported in
     record {
       update = c.in-Some.update;
@@ -14,11 +15,11 @@ returns-in-Next c =
 
 pub returns-in-Refused : goal.returns-in-Refused
 returns-in-Refused c =
-    let read : IsRead c.args.octets.now c.in-Some.update = told_some _ _ _ _ c.in-Some.is c.in_ok-update.ensures in
+    let read : IsRead (map (λ message. message.now) c.args.messages.now) c.in-Some.update = told_some _ _ _ _ c.in-Some.is c.in_ok-update.ensures in
     (c.in-Some.update, read, c.in-Refused.ensures.reported)
 
 pub returns-in-Unchanged : goal.returns-in-Unchanged
 returns-in-Unchanged c =
-    let read : IsRead c.args.octets.now c.in-Some.update = told_some _ _ _ _ c.in-Some.is c.in_ok-update.ensures in
+    let read : IsRead (map (λ message. message.now) c.args.messages.now) c.in-Some.update = told_some _ _ _ _ c.in-Some.is c.in_ok-update.ensures in
     let reported = c.in-Unchanged.ensures.reported in
     (c.in-Some.update, read, reported.0, reported.1)

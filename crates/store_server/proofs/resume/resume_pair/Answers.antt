@@ -1,3 +1,4 @@
+use Rattle.journal.specs.Batch.{Messages}
 use Rattle.std.proofs.Common.{◌≡◌, ◌-◌, ℕ, List, length, drop, refl, sym, ap, ◌∙◌}
 use Rattle.store_recovery.specs.Start.{IsStarted}
 use Rattle.store_server.proofs.RecoveredLemmas.{begins_with, ends_at, counts, recovered_once}
@@ -25,5 +26,5 @@ returns-clause-resumed c =
           found.opened.read.fit;
       versions = c.rebased-first.ensures.same;
       made = c.rebased-first.ensures.made is.zone is.messages is.replayed;
-      updates = given.last ∙ ap (λ (l : List (List ℕ)). drop (length l - length start.newest.older.items) l) (sym same);
+      updates = given.last ∙ ap (λ (l : List Messages). drop (length l - length start.newest.older.items) l) (sym same);
     }

@@ -1,19 +1,19 @@
 -- The store that a start has given goes on.
-use Rattle.std.proofs.Common.{◌≡◌, ℕ, List, [], length, min, map, All, Vec, sym, ap, ◌∙◌, subst}
-use Rattle.std.specs.Global.{Global}
+use Rattle.std.proofs.Common.{◌≡◌, ◌<◌, ℕ, List, [], length, min, All, sym, ap, ◌∙◌, subst}
 use Rattle.zone_tree.specs.Version.{Version}
 use Rattle.dns_engine.specs.Held.{KEPT}
-use Rattle.journal.specs.Batch.{IsShort}
+use Rattle.journal.specs.Batch.{request_octets}
+use Rattle.journal.specs.Frame.{body_limit}
 use Rattle.store_compaction.specs.RecentUpdates.{TrailState, followed}
 use Rattle.store_compaction.specs.Writer.{trail_of}
 use Rattle.store_server.specs.declared.resume.OpenStore.{OpenStore}
 use Rattle.store_server.specs.Resumed.{WritesOn}
-use Rattle.store_server.proofs.ResumedLemmas.{has_short, has_many, writes_on, followed_keep}
+use Rattle.store_server.proofs.ResumedLemmas.{has_fit, has_many, writes_on, followed_keep}
 use Rattle.store_server.proofs.resumed.resume_store.Goals as goal
 
 pub trail_of-requires-clause-short : goal.trail_of-requires-clause-short
 trail_of-requires-clause-short g c =
-    subst (λ (us : List (Vec ℕ Global)). All IsShort (map (λ update. update.items) us)) (sym c.deref-2.ensures.value) (has_short c.args.store c.requires)
+    subst (All (λ messages. length (request_octets messages) < body_limit)) (sym c.deref-2.ensures.value) (has_fit c.args.store c.requires)
 
 pub trail_of-requires-clause-many : goal.trail_of-requires-clause-many
 trail_of-requires-clause-many g c =
@@ -30,7 +30,7 @@ returns-clause-writes g c =
     c.of.ensures.trail ∙ (found.3 ∙ ap (λ (f : Version). followed (record { oldest = f; steps = []; keep = keep }) found.0) first) in
     let writes : WritesOn store.first store.later.items c.of.result =
     writes_on store keep found.0 c.of.result c.requires (found.1 ∙ (c.deref.ensures.value ∙ later))
-    (found.2 ∙ ap (λ (us : List (Vec ℕ Global)). map (λ update. update.items) us) c.deref-2.ensures.value) trail c.of.ensures.log c.of.ensures.head in
+    (found.2 ∙ c.deref-2.ensures.value) trail c.of.ensures.log c.of.ensures.head in
     subst (λ (f : Version). WritesOn f c.in_ok-later.later.items c.of.result) (sym first) (subst (λ (l : List Version). WritesOn store.first l c.of.result) (sym later) writes)
 
 pub returns-clause-keep : goal.returns-clause-keep

@@ -1,9 +1,9 @@
 use Rattle.std.proofs.Common.{List, ℕ, ap, ◌∙◌, subst}
 use Rattle.zone_tree.specs.Zone.{apex_of}
 use Rattle.store_recovery.specs.Start.{IsStarted}
-use Rattle.store_recovery.specs.declared.choices.Choice.TheVariants.{Same as IsSame, Store as IsStore, Zone as IsZone, StoreThoughOther as IsOlder, RefuseNewer, RefuseNotNewer, RefuseOtherApex}
+use Rattle.store_recovery.specs.declared.choices.Choice.TheVariants.{Same as IsSame, Store as IsStore, Zone as IsZone, StoreThoughOther as IsOlder, RefuseNewer, RefuseOtherApex}
 use Rattle.store_server.specs.Started.{IsChosen}
-use Rattle.store_server.proofs.ServedLemmas.{chosen_as, same_served, store_served, older_served, zone_served, own_refused}
+use Rattle.store_server.proofs.ServedLemmas.{chosen_as, same_served, store_served, older_served, zone_served, zone_refused}
 use Rattle.store_server.proofs.start.start_found.Goals as goal
 
 pub returns-in-Same-clause-served : goal.returns-in-Same-clause-served
@@ -55,18 +55,6 @@ returns-in-RefuseNewer-clause-refused g c =
     record { start = start; is = is; chosen = chosen_as given.text.now given.origin.now given.taken c.args.random text octets start _ (RefuseNewer c.in-RefuseNewer.given) c.in-RefuseNewer.is c.in_ok-choice_of.ensures.chosen } in
     (text, octets, chosen, c.serial-has.ensures)
 
-pub returns-in-RefuseNotNewer-clause-refused : goal.returns-in-RefuseNotNewer-clause-refused
-returns-in-RefuseNotNewer-clause-refused g c =
-    let given = c.args.given in
-    let text = c.args.pair.text.items in
-    let octets = c.args.pair.journal.items in
-    let start = c.in_ok-start.start in
-    let is : IsStarted text octets start =
-    subst (λ (t : List ℕ). IsStarted t octets start) c.deref.ensures.value (subst (λ (o : List ℕ). IsStarted c.deref.result.now o start) c.deref-2.ensures.value c.in_ok-start.ensures.started) in
-    let chosen : IsChosen given.text.now given.origin.now given.taken text octets (RefuseNotNewer c.in-RefuseNotNewer.given) =
-    record { start = start; is = is; chosen = chosen_as given.text.now given.origin.now given.taken c.args.random text octets start _ (RefuseNotNewer c.in-RefuseNotNewer.given) c.in-RefuseNotNewer.is c.in_ok-choice_of.ensures.chosen } in
-    (text, octets, chosen, c.serial-has-in-RefuseNotNewer.ensures)
-
 pub returns-in-RefuseOtherApex-clause-refused : goal.returns-in-RefuseOtherApex-clause-refused
 returns-in-RefuseOtherApex-clause-refused g c =
     let given = c.args.given in
@@ -90,8 +78,17 @@ returns-in-Zone-clause-served g c =
     subst (λ (t : List ℕ). IsStarted t octets start) c.deref.ensures.value (subst (λ (o : List ℕ). IsStarted c.deref.result.now o start) c.deref-2.ensures.value c.in_ok-start.ensures.started) in
     let chosen : IsChosen given.text.now given.origin.now given.taken text octets (IsZone zone) =
     record { start = start; is = is; chosen = chosen_as given.text.now given.origin.now given.taken c.args.random text octets start _ (IsZone zone) c.in-Zone.is c.in_ok-choice_of.ensures.chosen } in
-    zone_served given.text.now given.origin.now given.taken c.args.random text octets zone chosen c.take_text.result c.take_text.ensures.served c.take_text.ensures.begun
+    zone_served given.text.now given.origin.now given.taken c.args.random text octets zone chosen c.take_text.result c.take_text.ensures.served c.take_text.ensures.taken
 
 pub returns-in-Zone-clause-refused : goal.returns-in-Zone-clause-refused
 returns-in-Zone-clause-refused g c =
-    own_refused c.args.given.text.now c.args.given.origin.now c.args.given.taken c.take_text.result c.take_text.ensures.refused
+    let given = c.args.given in
+    let text = c.args.pair.text.items in
+    let octets = c.args.pair.journal.items in
+    let start = c.in_ok-start.start in
+    let zone = c.in-Zone.zone in
+    let is : IsStarted text octets start =
+    subst (λ (t : List ℕ). IsStarted t octets start) c.deref.ensures.value (subst (λ (o : List ℕ). IsStarted c.deref.result.now o start) c.deref-2.ensures.value c.in_ok-start.ensures.started) in
+    let chosen : IsChosen given.text.now given.origin.now given.taken text octets (IsZone zone) =
+    record { start = start; is = is; chosen = chosen_as given.text.now given.origin.now given.taken c.args.random text octets start _ (IsZone zone) c.in-Zone.is c.in_ok-choice_of.ensures.chosen } in
+    zone_refused given.text.now given.origin.now given.taken c.args.random text octets zone chosen c.take_text.result c.take_text.ensures.refused

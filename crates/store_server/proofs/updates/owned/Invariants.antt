@@ -1,6 +1,7 @@
 use Rattle.std.proofs.Common.{◌≡◌, map, take}
+use Rattle.journal.proofs.StartLemmas.{messages_now}
 use Rattle.store_server.proofs.updates.owned.Given as goal
 
 -- those so far
-abbrev pub invariant-loop-octets : goal.invariant-loop-octets
-invariant-loop-octets l = map (λ octets. octets.items) l.all.items ≡ map (λ octets. octets.now) (take l.octets-index l.found)
+abbrev pub invariant-loop-request : goal.invariant-loop-request
+invariant-loop-request l = l.all.items ≡ map messages_now (take l.request-index l.found)

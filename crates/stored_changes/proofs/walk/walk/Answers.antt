@@ -5,10 +5,10 @@ use Rattle.stored_changes.proofs.walk.walk.Goals as goal
 
 pub next_version-requires : goal.next_version-requires
 next_version-requires c =
-    let within : c.loop-place.place < length c.args.messages.now = c.loop-place-test.true in
-    let fits : length c.args.messages.now < 2 ^ 64 = search rules in
-    let few : c.loop-place.place ≤ length c.args.messages.now = omega (arith, within) in
-    let number = walked_number c.args.zone c.args.messages.now c.loop-place.place c.loop-place.last (string_bytes c.loop-place.reported) c.loop-place.invariant few in
+    let within : c.loop-place.place < length c.args.requests.now = c.loop-place-test.true in
+    let fits : length c.args.requests.now < 2 ^ 64 = search rules in
+    let few : c.loop-place.place ≤ length c.args.requests.now = omega (arith, within) in
+    let number = walked_number c.args.zone c.args.requests.now c.loop-place.place c.loop-place.last (string_bytes c.loop-place.reported) c.loop-place.invariant few in
     omega (arith, within, fits, number)
 
 pub put_version-requires : goal.put_version-requires
@@ -18,11 +18,11 @@ put_version-requires c =
 
 pub returns-in-Err-clause-refused : goal.returns-in-Err-clause-refused
 returns-in-Err-clause-refused c =
-    not_taken_at c.args.zone c.args.messages.now c.loop-place.place _ c.loop-place.last (string_bytes c.loop-place.reported) c.in-Err.fault c.loop-place.invariant c.loop-place-test.true
+    not_taken_at c.args.zone c.args.requests.now c.loop-place.place _ c.loop-place.last (string_bytes c.loop-place.reported) c.in-Err.fault c.loop-place.invariant c.loop-place-test.true
     (fault_told _ _ _ _ c.in-Err.is c.in_ok-next.ensures)
 
 pub loop-place-preserved : goal.loop-place-preserved
 loop-place-preserved c =
     let made = made_told _ _ _ _ c.in-Ok.is c.in_ok-next.ensures in
-    one_more_walked c.args.zone c.args.messages.now c.loop-place.place _ c.loop-place.last c.in-Ok.next (string_bytes c.loop-place.reported) _ c.loop-place.invariant c.loop-place-test.true
+    one_more_walked c.args.zone c.args.requests.now c.loop-place.place _ c.loop-place.last c.in-Ok.next (string_bytes c.loop-place.reported) _ c.loop-place.invariant c.loop-place-test.true
     made c.in_ok-put_version-in-Ok.ensures

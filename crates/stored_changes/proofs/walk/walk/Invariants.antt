@@ -4,4 +4,4 @@ use Rattle.stored_changes.proofs.WalkLemmas.{IsWalked}
 use Rattle.stored_changes.proofs.walk.walk.Given as goal
 
 abbrev pub invariant-loop-place : goal.invariant-loop-place
-invariant-loop-place l = IsWalked l.fn.zone (take l.place (now_of l.messages)) l.last (string_bytes l.reported)
+invariant-loop-place l = IsWalked l.fn.zone (take l.place (now_of l.requests)) l.last (string_bytes l.reported)

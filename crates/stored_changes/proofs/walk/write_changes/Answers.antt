@@ -1,4 +1,4 @@
-use Rattle.std.proofs.Common.{◌≡◌, ℕ, List, [], Ok, Bor, string_bytes, sym, ◌∙◌, subst}
+use Rattle.std.proofs.Common.{◌≡◌, ℕ, List, [], Ok, Bor, Vec, Global, string_bytes, sym, ◌∙◌, subst}
 use Rattle.zone_tree.specs.Version.{zone_serial}
 use Rattle.master_file.specs.ZoneText.{zone_of_text}
 use Rattle.store_recovery.proofs.ReplayLemmas.{now_of}
@@ -21,5 +21,5 @@ returns-clause-reported c =
         is_zone = is_zone;
         serial = serial;
       };
-      changes = subst (λ (messages : List (Bor (List ℕ))). AreTold zone (now_of messages) (string_bytes c.in_ok-reported.reported)) c.deref.ensures.value c.in_ok-reported.ensures.reported;
+      changes = subst (λ (messages : List (Vec (Bor (List ℕ)) Global)). AreTold zone (now_of messages) (string_bytes c.in_ok-reported.reported)) c.deref.ensures.value c.in_ok-reported.ensures.reported;
     }

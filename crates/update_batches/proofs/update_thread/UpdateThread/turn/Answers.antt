@@ -1,4 +1,5 @@
 -- The first of those that wait are judged as a batch, and each of it gets its reply.
+use Rattle.journal.specs.Batch.{Messages}
 use Rattle.std.proofs.Common.{◌≡◌, ◌+◌, ◌++◌, ◌∙◌, ℕ, List, refl, ap, sym, subst, length, take, take-append-drop, arith}
 use Rattle.std.specs.Prelude.{min, max}
 use Rattle.dns_rdata.specs.Record.{Record}
@@ -76,9 +77,9 @@ returns-clause-turned g c =
       left = omega (arith, left, ap length from);
       verdicts = verdicts;
       reported = told_tended has leaves fault old new batch verdicts c.args.self.now.store c.tend.new.self c.keep-updates.new.store c.tend-2.new.self
-          (subst (λ s. (zone : List Record) (versions : List Version) (updates : List (List ℕ)) → has zone s versions updates → has zone c.tend.new.self versions updates)
+          (subst (λ s. (zone : List Record) (versions : List Version) (updates : List Messages) → has zone s versions updates → has zone c.tend.new.self versions updates)
           same.1 c.tend.ensures.kept)
-          (subst (λ s. (zone : List Record) (versions : List Version) (updates : List (List ℕ)) → has zone s versions updates → leaves zone s c.tend.new.self updates)
+          (subst (λ s. (zone : List Record) (versions : List Version) (updates : List Messages) → has zone s versions updates → leaves zone s c.tend.new.self updates)
           same.1 c.tend.ensures.crash)
           c.tend-2.ensures.kept c.tend-2.ensures.crash
           (told_between has leaves fault old begun new new batch verdicts c.tend.new.self c.keep-updates.new.store from refl

@@ -1,6 +1,5 @@
 -- What is told at a ticket is the reply by what was known when the update was taken up.
 use Rattle.std.proofs.Common.{◌≡◌, ◌≤◌, ℕ, true, [], ◌∷◌, Option, None, Some, length, take, sym, ap, ◌∙◌, subst}
-use Rattle.std.proofs.lemmas.Slice.Eq.{bytes_eq-Decides}
 use Rattle.dns_message.specs.Message.{message_limit}
 use Rattle.tcp_connections.specs.declared.handler.Reply.{Reply}
 use Rattle.tcp_connections.specs.declared.handler.Reply.TheVariants.{One}
@@ -74,17 +73,17 @@ returns g c =
       replied = tt;
     }
 
-pub returns-then-eq : goal.returns-then-eq
-returns-then-eq g c =
+pub returns-then-is_one : goal.returns-then-is_one
+returns-then-is_one g c =
     let first = g.Z.FirstZone.zone in
     let grown = meets_grows first c.self.inside.reader c.fetch-fetched.new.reader _ c.fetch-fetched.ensures.met in
     let here : place_in c.self.inside.taken c.self.inside.asker ≡ Some c.in-Some.place = sym c.at.ensures ∙ c.in-Some.is in
     let reported : IsDone first c.fetch-fetched.new.reader.seen c.in-Ready.done = subst (λ (f : Poll). IsFetched first c.fetch-fetched.new.reader.seen f) c.in-Ready.is c.fetch-fetched.ensures.fetched in
-    let octets : c.in-Ready.done.asked.octets.items ≡ c.args.request.now = sym c.octets.ensures.octets ∙ (bytes_eq-Decides c.octets.result.now c.args.request.now).0 (sym c.if-eq.ensures) in
+    let alone : c.in-Ready.done.asked.messages ≡ c.args.request.now ∷ [] = sym c.messages.ensures ∙ c.is_one.ensures.0 c.if-is_one.true in
     let may : c.in-Ready.done.asked.may ≡ true = sym c.may.ensures ∙ c.if-may.true in
     let permitted : c.self.inside.peer.may_update ≡ true = subst (λ (s : HandlerState). s.peer.may_update ≡ true) (sym c.self.view_is) c.requires.later.1 in
     let none = gone_none c.self.inside.taken c.self.inside.reader c.fetch-fetched.new.reader c.self.inside.asker grown c.remove.new.self c.remove.ensures in
-    let replied = taken_replied first c.self.inside.peer c.self.inside.taken c.self.inside.reader c.fetch-fetched.new.reader c.self.inside.asker _ c.in-Some.place c.in-Ready.done c.args.request.now c.reply_done.new.out c.reply_done.result c.self.invariant here c.fetch-fetched.ensures.met reported octets may permitted c.reply_done.ensures.octets in
+    let replied = taken_replied first c.self.inside.peer c.self.inside.taken c.self.inside.reader c.fetch-fetched.new.reader c.self.inside.asker _ c.in-Some.place c.in-Ready.done c.args.request.now c.reply_done.new.out c.reply_done.result c.self.invariant here c.fetch-fetched.ensures.met reported alone may permitted c.reply_done.ensures.octets in
     record {
       peer = ap (λ (s : HandlerState). s.peer) c.self.view_is;
       asker = ap (λ (s : HandlerState). s.asker) c.self.view_is;

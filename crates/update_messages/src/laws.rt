@@ -1,0 +1,18 @@
+//! Laws of updates in one message or more: each is the contract of a function that does nothing.
+ghost use Rattle.std.specs.Prelude.{◌≡◌, ℕ, List, [], ◌∷◌};
+ghost use Rattle.dns_message.specs.Request.{reads};
+ghost use Rattle.dns_message.specs.declared.query.Parsed.TheVariants.{Update as Asks};
+ghost use Rattle.dns_message.specs.declared.update.Update.{Update};
+ghost use Rattle.journal.specs.Batch.{Messages};
+ghost use Rattle.update_messages.specs.Joined.{IsRead};
+
+/// A request of one message is read as that message is (RFC 2136, 2).
+pub fn one_message_is_read()
+    ensures is { (message : List ℕ) (update : Update) → reads message ≡ Asks update → IsRead (message ∷ []) update }
+    ensures only { (message : List ℕ) (update : Update) → IsRead (message ∷ []) update → reads message ≡ Asks update }
+{}
+
+/// A request is read as at most one update.
+pub fn a_request_is_read_once()
+    ensures { (messages : Messages) (update other : Update) → IsRead messages update → IsRead messages other → update ≡ other }
+{}
