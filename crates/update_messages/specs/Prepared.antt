@@ -1,12 +1,18 @@
 -- The update that takes a zone to another one, as it is stored and submitted (RFC 2136; own).
-use Rattle.std.specs.Prelude.{◌≡◌, ◌≤◌, ℕ, List, length}
+use Rattle.std.specs.Prelude.{◌≡◌, ◌≤◌, ◌<◌, ℕ, ⊤, List, false, length}
+use Rattle.dns_name.specs.Name.{is_same}
 use Rattle.dns_rdata.specs.Record.{Record}
-use Rattle.journal.specs.Batch.{request_octets}
+use Rattle.dns_message.specs.declared.update.Update.{Update}
+use Rattle.journal.specs.Batch.{Messages, request_octets}
+use Rattle.zone_tree.specs.Zone.{apex_of}
 use Rattle.zone_tree.specs.Version.{zone_serial}
-use Rattle.zone_change.specs.Change.{aimed, change_to}
+use Rattle.zone_change.specs.declared.fault.ChangeFault.TheVariants.{OtherApex, NoRoom, TooLong, NoMemory as no_memory}
+use Rattle.zone_change.specs.Change.{aimed, change_to, HasRoom}
 use Rattle.zone_change.specs.Messages.{AreMessages}
 use Rattle.zone_change.specs.Summary.{deleted_by, added_by, serial_after}
 use Rattle.update_messages.specs.Joined.{IsRead}
+use Rattle.update_messages.specs.declared.prepare_fault.PrepareFault.{PrepareFault}
+use Rattle.update_messages.specs.declared.prepare_fault.PrepareFault.TheVariants.{Change as no_change, TooLarge, Unread, NoMemory}
 use Rattle.update_messages.specs.declared.prepared.Prepared.{Prepared}
 use Rattle.update_messages.specs.declared.prepared.Prepared.TheVariants.{Unchanged, Change}
 use Rattle.update_messages.specs.declared.prepared.PreparedChange.{PreparedChange}
@@ -27,3 +33,26 @@ pub record IsPrepared (served next : List Record) (prepared : PreparedChange) : 
 abbrev pub IsPreparedFrom : List Record → List Record → Prepared → Type 0
 IsPreparedFrom served next (Unchanged serial) = (aimed served next ≡ served) × (serial.0 ≡ zone_serial served)
 IsPreparedFrom served next (Change change) = IsPrepared served next change
+
+-- an update of the change from a zone to another one has messages, but more octets in a batch than have room in a frame
+pub record IsTooLarge (served next : List Record) : Type 0 where
+  pub messages : Messages
+  pub are_messages : AreMessages (change_to served next) messages
+  pub large : 12582912 < length (request_octets messages)
+
+-- or its messages aren't read as an update
+pub record IsUnread (served next : List Record) : Type 0 where
+  pub messages : Messages
+  pub are_messages : AreMessages (change_to served next) messages
+  pub unread : (update : Update) → IsRead messages update → ⊥
+
+-- why no update is made that takes a zone to another one: they have different apexes, or they share no NS and there is no room for another one
+-- (RFC 2136, 3.4.2.4); or the update has too many octets, or isn't read again; or there is no memory. No record of a zone has too many octets for a message
+abbrev pub IsPrepareFault : List Record → List Record → PrepareFault → Type 0
+IsPrepareFault served next (no_change OtherApex) = is_same (apex_of served) (apex_of next) ≡ false
+IsPrepareFault served next (no_change NoRoom) = HasRoom served next → ⊥
+IsPrepareFault served next (no_change TooLong) = ⊥
+IsPrepareFault served next (no_change no_memory) = ⊤
+IsPrepareFault served next TooLarge = IsTooLarge served next
+IsPrepareFault served next Unread = IsUnread served next
+IsPrepareFault served next NoMemory = ⊤

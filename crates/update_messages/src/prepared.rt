@@ -1,8 +1,10 @@
 //! The update that takes a zone to another one, as it is stored and submitted (RFC 2136; own).
-ghost use Rattle.std.specs.Prelude.{◌≡◌, ◌≤◌, length, IfOk, IfSome};
-ghost use Rattle.journal.specs.Batch.{request_octets};
+ghost use Rattle.std.specs.Prelude.{◌≡◌, ◌≤◌, ◌<◌, length, IfOk, IfErr, MatchOption};
+ghost use Rattle.std.specs.Result.{IsErrOf};
+ghost use Rattle.dns_message.specs.declared.update.Update.{Update as DynamicUpdate};
+ghost use Rattle.journal.specs.Batch.{Messages, request_octets};
 ghost use Rattle.update_messages.specs.Joined.{IsRead};
-ghost use Rattle.update_messages.specs.Prepared.{IsPreparedFrom};
+ghost use Rattle.update_messages.specs.Prepared.{IsPreparedFrom, IsPrepareFault};
 ghost use Rattle.zone_change.specs.Messages.{AreMessages};
 
 use crate::prepare_fault::PrepareFault;
@@ -39,10 +41,11 @@ pub enum Prepared {
 
 /// The update that takes a zone to another one of its apex. It allocates memory.
 ///
-/// Fails where no update does: see [`zone_change::change_to`] and [`zone_change::messages_of`]; with `TooLarge` where its messages have more than 12,582,912 octets in a
-/// batch, and with `Unread` where they aren't read as an update again.
+/// Fails where no update does, see [`zone_change::change_to`]; with `TooLarge` where its messages have more than 12,582,912 octets in a batch, and with `Unread` where they
+/// aren't read as an update again.
 pub fn prepare_change(alloc: Global, served: &Zone, next: &Zone) -> Result<Prepared, PrepareFault>
     ensures prepared { IfOk result (λ prepared. IsPreparedFrom served.now next.now prepared) }
+    ensures refused { IfErr result (IsPrepareFault served.now next.now) }
 {
     let Some(update) = change_to(alloc, served, next)? else {
         return Ok(Prepared::Unchanged(served.serial()));
