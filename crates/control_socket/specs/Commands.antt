@@ -1,5 +1,5 @@
 -- The commands of a control socket (own).
-use Rattle.std.specs.Prelude.{ℕ, List, [], ◌∷◌, ◌++◌, codes}
+use Rattle.std.specs.Prelude.{ℕ, List, codes}
 use Rattle.control_socket.specs.declared.command.ControlCommand.{ControlCommand}
 use Rattle.control_socket.specs.declared.command.ControlCommand.TheVariants.{Reload, Status, Stats, Stop}
 

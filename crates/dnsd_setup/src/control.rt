@@ -1,7 +1,7 @@
 //! The socket for the operator's commands, on the server's side and on that of `dnsd control`.
 use command_line::Control;
 use commands::{DONE, FAILED, REFUSED};
-use control_socket::{BindFault, ask, bind_control};
+use control_socket::{BindFault, bind_control, send_command};
 use log_lines::Level;
 use std::fs::{self, Files};
 use std::io;
@@ -48,7 +48,7 @@ pub fn run_control<R: Files + Net + Print + Eprint + AllocGlobal>(
     control: Control<'_>,
 ) -> io::Result<u8> {
     let path = control.path;
-    let reply = match ask(rt, rt.alloc(), path, control.command) {
+    let reply = match send_command(rt, rt.alloc(), path, control.command) {
         Ok(reply) => reply,
         Err(fault) => {
             eprintln!(rt; "error: no server answers on '{path}': {fault}")?;

@@ -9,7 +9,7 @@ use std::os::unix::net::UnixStream;
 const MOST: u64 = 1 << 20;
 
 /// Sends a command to the server that listens at a path, and gives its reply, once that is whole. It waits for as long as the server takes.
-pub fn ask<R: Net>(
+pub fn send_command<R: Net>(
     rt: &R,
     alloc: Global,
     path: &str,
