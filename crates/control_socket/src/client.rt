@@ -1,4 +1,7 @@
 //! A client, as the server has it.
+ghost use Rattle.std.specs.Prelude.{◌≡◌, ◌++◌, ◌∷◌, IfSome};
+ghost use Rattle.control_socket.specs.Commands.{IsHeard};
+
 use crate::command::ControlCommand;
 use std::io::{ErrorKind, Read, Write};
 use std::os::unix::net::{UnixListener, UnixStream};
@@ -92,22 +95,13 @@ impl ControlClient {
         }
     }
 
-    /// The command of the line, once it is whole.
+    /// What the line says. Once it is whole, the client waits for its reply.
     fn take_line(&mut self) -> Heard {
-        let sent = &self.line[..self.len.min(LINE)];
-        let Some(end) = sent.iter().position(|octet| *octet == b'\n') else {
-            if self.len < LINE {
-                return Heard::Nothing;
-            }
+        let heard = heard_in(&self.line[..self.len.min(LINE)]);
+        if heard != Heard::Nothing {
             self.stage = Stage::Waits;
-            return Heard::Unknown;
-        };
-        let command = ControlCommand::of(&sent[..end]);
-        self.stage = Stage::Waits;
-        match command {
-            Some(command) => Heard::Command(command),
-            None => Heard::Unknown,
         }
+        heard
     }
 
     /// Whether it waits for its reply.
@@ -150,6 +144,32 @@ impl ControlClient {
     fn is_late(&self, now: u64) -> bool {
         now.saturating_sub(self.since) > PATIENCE
     }
+}
+
+/// What the octets say that a client has sent: the command of the line that its newline ends, nothing before that has come. A line of 256 octets or more is no command.
+fn heard_in(sent: &[u8]) -> Heard
+    ensures { IsHeard sent.now result }
+{
+    let Some((line, _rest)) = line_of(sent) else {
+        return if sent.len() < LINE {
+            Heard::Nothing
+        } else {
+            Heard::Unknown
+        };
+    };
+    match ControlCommand::of(line) {
+        Some(command) => Heard::Command(command),
+        None => Heard::Unknown,
+    }
+}
+
+/// The octets before and after the first newline; None where there is none.
+fn line_of(sent: &[u8]) -> Option<(&[u8], &[u8])>
+    ensures { IfSome result (λ parts. sent.now ≡ parts.0.now ++ 10 ∷ parts.1.now) }
+{
+    let at = sent.iter().position(|octet| *octet == b'\n')?;
+    let (line, rest) = sent.split_at(at);
+    Some((line, rest.get(1..)?))
 }
 
 /// Whether a read or a write is to be tried again later.
