@@ -10,7 +10,7 @@ mod prepare_fault;
 mod prepared;
 mod read;
 
-pub use laws::{a_request_is_read_once, one_message_is_read};
+pub use laws::{a_change_is_read_again, a_request_is_read_once, one_message_is_read};
 pub use prepare_fault::PrepareFault;
 pub use prepared::{Prepared, PreparedChange, prepare_change};
 pub use read::read_request;

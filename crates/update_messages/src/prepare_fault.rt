@@ -8,12 +8,10 @@ use zone_change::ChangeFault;
 /// Why no update is made that takes a zone to another one.
 #[derive(Clone, Copy, Debug, PartialEq, Eq)]
 pub enum PrepareFault {
-    /// There is no change from the one zone to the other: they have different apexes, share no NS, or a record is longer than a message.
+    /// There is no change from the one zone to the other: they have different apexes, or share no NS where there is no room for another one.
     Change(ChangeFault),
     /// The update has more octets than a frame of a journal takes.
     TooLarge,
-    /// A message of the update isn't read as one again.
-    Unread,
     /// There is no memory.
     NoMemory,
 }
