@@ -122,7 +122,6 @@ fn reason_of(alloc: Global, fault: PrepareFault) -> Result<String, AllocError> {
         PrepareFault::TooLarge => format!(in alloc;
             "the change has more records than one update may have: stop the server, and start it with --take zone"
         ),
-        PrepareFault::Unread => format!(in alloc; "the update can't be read again"),
         PrepareFault::NoMemory => format!(in alloc; "out of memory"),
     }
 }
