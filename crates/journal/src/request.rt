@@ -104,18 +104,6 @@ impl RequestMessages {
         Ok(RequestMessages { first, more })
     }
 
-    /// Its messages, for what reads them. It allocates memory for references to them.
-    pub fn slices(&self, alloc: Global) -> Result<Vec<&[u8]>, AllocError>
-        ensures { IfOk result (λ slices. map (λ message. message.now) slices.items ≡ self.now) }
-    {
-        let mut slices = Vec::new(alloc);
-        slices.push(self.first.as_slice())?;
-        for message in &self.more {
-            slices.push(message.as_slice())?;
-        }
-        Ok(slices)
-    }
-
     /// Its first message.
     pub fn first(&self) -> &[u8]
         ensures first { result.now ≡ first_of self.now }
