@@ -8,6 +8,7 @@ ghost use Rattle.requests.specs.Octets.{messages_in};
 ghost use Rattle.requests.specs.Served.{Learned, Grows};
 ghost use Rattle.serve_core.specs.declared.peer.Peer.{Peer as PeerAsking};
 ghost use Rattle.signed_replies.specs.Signed.{received, AreSignedAlone, IsReplyBy, IsSignedReply, IsReplyTo};
+ghost use Rattle.tsig.specs.declared.verifying.Verification.TheVariants.{Unsigned as unsigned};
 ghost use Rattle.zone_tree.specs.Version.{Version};
 
 use crate::clock::UnixClock;
@@ -100,11 +101,9 @@ impl<'r, 'k, K: KeyRing, A: SignsLater + Drop, C: UnixClock, O: TsigLog + Drop> 
     {
         let message = Message::new(request);
         if is_unsigned(&message) {
-            return self.answer_by(rt, 0, Verification::Unsigned, request, out);
+            return self.answer_plain(rt, request, out);
         }
-        let now = self.clock.now();
-        let verified = verify(self.ring.keys(), now, &message);
-        self.answer_by(rt, now, verified, request, out)
+        self.answer_verified(rt, &message, request, out)
     }
 
     /// Answers a request of many octets: no pointer among them is followed twice.
@@ -127,10 +126,49 @@ impl<'r, 'k, K: KeyRing, A: SignsLater + Drop, C: UnixClock, O: TsigLog + Drop> 
         let mut sizes = [0; MAX_TARGETS];
         let message = Message::with_room(request, &mut ends, &mut sizes);
         if is_unsigned(&message) {
-            return self.answer_by(rt, 0, Verification::Unsigned, request, out);
+            return self.answer_plain(rt, request, out);
         }
+        self.answer_verified(rt, &message, request, out)
+    }
+
+    /// Answers a request that has no TSIG.
+    fn answer_plain<R: Wait>(
+        &mut self,
+        rt: &R,
+        request: &[u8],
+        out: &mut [u8],
+    ) -> Result<Option<usize>, Spent>
+        requires unsigned { unsigned ≡ received K.keys 0 request.now }
+        requires room { message_limit ≤ length out.old }
+        ensures same { self.new.peer ≡ self.old.peer }
+        ensures grows { Grows {T = Version} (A.seen self.new.inner) (A.seen self.old.inner) }
+        ensures bound { IfOk result (λ len. IfSome len (λ n. (n ≤ message_limit) × (n ≤ length out.new))) }
+        ensures reply { IfOk result (λ len. IsReplyTo {T = Version} K.keys K.rights A.is_reply AreSignedAlone (by_datagram self.old.peer) (A.seen self.old.inner) (A.seen self.new.inner) request.now (messages_in len out.new)) }
+    {
+        let (peer, from) = (self.peer, self.from);
+        answer_as(rt, &mut self.inner, peer, from, None, request, out)
+    }
+
+    /// Answers a request by what it is by its TSIG at this time. It has a frame of its own, so that a request without a TSIG needs no room for one.
+    #[inline(never)]
+    fn answer_verified<R: Wait>(
+        &mut self,
+        rt: &R,
+        message: &Message<'_>,
+        request: &[u8],
+        out: &mut [u8],
+    ) -> Result<Option<usize>, Spent>
+        requires message { message.now ≡ request.now }
+        requires header { HEADER ≤ length request.now }
+        requires short { length request.now ≤ message_limit }
+        requires room { message_limit ≤ length out.old }
+        ensures same { self.new.peer ≡ self.old.peer }
+        ensures grows { Grows {T = Version} (A.seen self.new.inner) (A.seen self.old.inner) }
+        ensures bound { IfOk result (λ len. IfSome len (λ n. (n ≤ message_limit) × (n ≤ length out.new))) }
+        ensures reply { IfOk result (λ len. IsReplyTo {T = Version} K.keys K.rights A.is_reply AreSignedAlone (by_datagram self.old.peer) (A.seen self.old.inner) (A.seen self.new.inner) request.now (messages_in len out.new)) }
+    {
         let now = self.clock.now();
-        let verified = verify(self.ring.keys(), now, &message);
+        let verified = verify(self.ring.keys(), now, message);
         self.answer_by(rt, now, verified, request, out)
     }
 
@@ -323,7 +361,6 @@ impl<'r, 'k, K: KeyRing, A: SignsLater + Drop, C: UnixClock, O: TsigLog + Drop> 
     ghost is_reply = { λ peer seen later request messages. IsReplyTo K.keys K.rights A.is_reply AreSignedAlone peer seen later request messages };
 
     fn turn_to(&mut self, other: Peer, from: SocketAddr) {
-        self.inner.turn_to(other, from);
         self.peer = other;
         self.from = from;
     }
@@ -348,8 +385,7 @@ impl<'r, 'k, K: KeyRing, A: SignsLater + Drop, C: UnixClock, O: TsigLog + Drop> 
             return Ok(None);
         }
         if request.len() > MAX_LIMIT {
-            let (peer, from) = (self.peer, self.from);
-            return answer_as(rt, &mut self.inner, peer, from, None, request, out);
+            return self.answer_plain(rt, request, out);
         }
         if request.len() > MAX_SHORT {
             return self.answer_long(rt, request, out);
