@@ -321,18 +321,21 @@ impl<'a, 's, Z: FirstZone, N: ServerName, L: ServiceLog> LocalUpdates
         Ok(strong.get().share(rt))
     }
 
+    #[tactic(auto, using(requests::proofs::TurnLemmas::grows_itself))]
     fn hold<R: Wait>(&mut self, rt: &R) {
         if let Some(sender) = self.sender {
             sender.queue.hold(rt);
         }
     }
 
+    #[tactic(auto, using(requests::proofs::TurnLemmas::grows_itself))]
     fn release<R: Wait>(&mut self, rt: &R) {
         if let Some(sender) = self.sender {
             sender.queue.release(rt);
         }
     }
 
+    #[tactic(auto, using(requests::proofs::TurnLemmas::grows_itself))]
     fn submit_own<R: Wait>(
         &mut self,
         rt: &R,
@@ -348,6 +351,7 @@ impl<'a, 's, Z: FirstZone, N: ServerName, L: ServiceLog> LocalUpdates
         fetched
     }
 
+    #[tactic(auto, using(requests::proofs::TurnLemmas::grows_itself))]
     fn leave<R: Wait>(&mut self, rt: &R, ticket: usize) {
         self.server.leave(rt, ticket);
     }
