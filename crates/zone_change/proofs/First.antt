@@ -7,18 +7,15 @@ use Rattle.std.specs.declared.cmp.Ordering.TheVariants.{Equal}
 use Rattle.std.proofs.lemmas.Bool.{eqb-true}
 use Rattle.std.proofs.lemmas.List.{length-map}
 use Rattle.dns_name.specs.Name.{Name, is_same}
-use Rattle.dns_name.specs.Order.{is_same_equiv}
 use Rattle.dns_rdata.specs.Numbers.{type_NS, type_CNAME, type_SOA}
 use Rattle.dns_rdata.specs.Data.{serial_of}
 use Rattle.dns_rdata.specs.Record.{Record, IsLawful, record_cmp, owner_of}
-use Rattle.dns_rdata.specs.Raw.{RawRecord}
 use Rattle.dns_rdata.specs.SerialOrder.{serial_less}
 use Rattle.zone_tree.specs.Zone.{IsZone, is_of, rrset_of, soa_of, apex_of}
 use Rattle.zone_tree.specs.Change.{is_same_record, left_out}
 use Rattle.zone_tree.specs.Patch.{is_among}
 use Rattle.zone_tree.specs.Version.{zone_serial, first_data}
 use Rattle.zone_tree.proofs.Rising.{each_map, each_append}
-use Rattle.update_core.specs.Verdict.{has_rrset}
 use Rattle.update_core.specs.Act.{with_one, with_ttl, record_with_ttl, has_other_than_alias, has_lesser_soa, effect, effects}
 use Rattle.update_core.proofs.EffectKeeps.{IsNext, effects_keep}
 use Rattle.update_core.proofs.OneMore.{by_order, tied, filter-with_one_not}
@@ -112,7 +109,7 @@ pub record CanLead (old next : List Record) : Type 0 where
   pub room : HasRoom old next
 
 -- an element of the part that a take leaves
-taken_in : (rs : List Record) (r : Record) → IsIn r (take 1 rs) → IsIn r rs
+pub taken_in : (rs : List Record) (r : Record) → IsIn r (take 1 rs) → IsIn r rs
 taken_in [] r k = k
 taken_in (s ∷ rs) r (inl e) = inl e
 taken_in (s ∷ rs) r (inr m) = absurd m

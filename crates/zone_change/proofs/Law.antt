@@ -21,7 +21,6 @@ use Rattle.zone_tree.proofs.Rising.{each_append}
 use Rattle.update_core.specs.Verdict.{zone_section, prerequisite, prerequisites, is_gathered, is_met, have_same_data, prescan, verdict}
 use Rattle.update_core.specs.Act.{at_serial, effects, completed, act}
 use Rattle.update_core.proofs.ListLemmas.{by_test}
-use Rattle.update_core.proofs.EffectKeeps.{IsNext}
 use Rattle.update_core.proofs.ActKeeps.{serial_zone}
 use Rattle.update_core.proofs.SerialLaw.{next_serial_less}
 use Rattle.zone_change.specs.Change.{put_in, standing, steps, servers_of, first_server, with_first, change_records, update_from, change_to, aimed, HasRoom, CanChange}

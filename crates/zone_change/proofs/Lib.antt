@@ -11,3 +11,4 @@ pub mod RecordsLemmas
 pub mod ServerLemmas
 pub mod FirstLemmas
 pub mod MessagesLemmas
+pub mod SizeLemmas

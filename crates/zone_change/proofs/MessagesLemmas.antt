@@ -1,17 +1,19 @@
 -- How long the messages of an update are, and that they have its records between them.
-use Rattle.std.proofs.Common.{◌≡◌, ℕ, ◌+◌, ◌-◌, ◌<◌, ◌≤◌, ◌⊎◌, List, [], ◌∷◌, ◌++◌, length, map, take, drop, flat_map, inl, inr, refl, sym, ap, ◌∙◌, subst, append_assoc, append-nil, length-append, arith}
-use Rattle.std.specs.Prelude.{All, sum_by}
+use Rattle.std.proofs.Common.{◌≡◌, ℕ, zero, suc, ◌+◌, ◌-◌, ◌^◌, ◌<◌, ◌≤◌, ◌⊎◌, List, [], ◌∷◌, ◌++◌, length, map, min, take, drop, flat_map, inl, inr, refl, sym, ap, ◌∙◌, subst, append_assoc, append-nil, length-append, arith}
+use Rattle.std.specs.Prelude.{All, Contains, Option, None, Some, MatchOption, unwrap_or}
+use Rattle.std.specs.Option.{SomeIff}
+use Rattle.std.proofs.Math.Nat.{lt_of_not-le}
 use Rattle.std.specs.Int.{w16, w32, to_be_bytes}
-use Rattle.std.proofs.lemmas.List.{length-take-le, map-append, take-append-drop, drop_all}
+use Rattle.std.proofs.lemmas.List.{length-take-le, map-append, take-append-drop, take_all, take_rest, drop_all}
 use Rattle.std.proofs.lemmas.List.Concat.{flat_map-append, length-flat_map}
-use Rattle.std.proofs.lemmas.List.Elements.{All-nil, All-cons, All-head, All-push, All-same, All-map}
-use Rattle.std.proofs.lemmas.List.Sums.{sum_by-take-le}
+use Rattle.std.proofs.lemmas.List.Elements.{Contains-append_right, All-nil, All-cons, All-head, All-push, All-same, All-map}
+use Rattle.std.proofs.lemmas.List.Sums.{sum_by-cons, sum_by-take-le}
 use Rattle.dns_name.specs.Name.{Name, wire_of}
 use Rattle.dns_rdata.specs.Raw.{RawRecord}
 use Rattle.dns_message.specs.declared.update.Update.{Update}
 use Rattle.dns_message.specs.declared.update.ZoneEntry.{ZoneEntry}
-use Rattle.zone_change.specs.Message.{most_octets, owner_octets, record_octets, zone_octets, head_octets, message_octets}
-use Rattle.zone_change.specs.Messages.{part_octets, octets_in, AreMessages}
+use Rattle.zone_change.specs.Message.{most_octets, owner_octets, record_octets, head_octets, message_octets}
+use Rattle.zone_change.specs.Messages.{part_octets, octets_in, AreMessages, HasLongRecord}
 
 owner_long : (wire : List ℕ) (n : ℕ) → n ≤ length wire → length (take n wire ++ 192 ∷ 12 ∷ []) ≡ n + 2
 owner_long wire n within = omega (arith, length-append (take n wire) (192 ∷ 12 ∷ []), length-take-le n wire within)
@@ -52,6 +54,11 @@ part_room zone prerequisites records room is fit = omega (arith, part_long zone 
 pub part_over : (zone : ZoneEntry) (prerequisites records : List RawRecord) (room : ℕ)
     → length (part_octets zone prerequisites []) + room ≡ most_octets → room < octets_in zone.name records → most_octets < length (part_octets zone prerequisites records)
 part_over zone prerequisites records room is over = omega (arith, part_long zone prerequisites records, part_long zone prerequisites [], is, over)
+
+-- how much room is left beside prerequisites; none where they are too many
+abbrev pub RoomBeside : ZoneEntry → List RawRecord → Option ℕ → Type 0
+RoomBeside zone prerequisites room =
+    MatchOption room (most_octets < length (part_octets zone prerequisites [])) (λ room. length (part_octets zone prerequisites []) + room ≡ most_octets)
 
 -- messages with these records, and without prerequisites, that were put at the end of others, and the records that are left
 pub record PutSoFar (zone : ZoneEntry) (records rest : List RawRecord) (before after : List (List ℕ)) : Type 0 where
@@ -138,3 +145,67 @@ are_messages update room count parts messages is fit most rest some short spelt 
               (omega (arith, over, sum_by-take-le (λ r. length (record_octets update.zone.name r)) update.updates (count + 1))),
           whole,
         ))
+
+-- how much room is left beside prerequisites
+pub room_left : (zone : ZoneEntry) (prerequisites : List RawRecord) (k len : ℕ) (room : Option ℕ) → length prerequisites ≤ k
+    → len ≡ min (length (wire_of zone.name) + 16 + octets_in zone.name (take k prerequisites)) (2 ^ 64 - 1) → SomeIff room (len ≤ 65535) (65535 - len) → RoomBeside zone prerequisites room
+room_left zone prerequisites k len None end is over =
+    omega (arith, part_long zone prerequisites [], is, ap (octets_in zone.name) (take_all k prerequisites end), lt_of_not-le over)
+room_left zone prerequisites k len (Some room) end is fits =
+    omega (arith, part_long zone prerequisites [], is, ap (octets_in zone.name) (take_all k prerequisites end), fits.0, fits.1)
+
+-- a record that has no room alone
+pub long_record : (zone : ZoneEntry) (records rest : List RawRecord) (before after : List (List ℕ)) (room : Option ℕ) (left count : ℕ) → PutSoFar zone records rest before after → 0 < length rest
+    → RoomBeside zone [] room → left ≡ unwrap_or room 0 → count ≡ 0 → (count ≡ length rest) ⊎ (left < octets_in zone.name (take (count + 1) rest)) → HasLongRecord zone records
+long_record zone records [] before after room left count so_far some beside is none most = absurd (omega (arith, some))
+long_record zone records (raw ∷ more) before after room left count so_far some beside is none most = (
+  raw,
+  subst (λ (rs : List RawRecord). Contains rs raw) so_far.all (Contains-append_right (flat_map (λ p. p) so_far.parts) (raw ∷ more) raw (0, omega arith, refl)),
+  over room beside is (over_left most),
+)
+  where
+    over_left : (count ≡ length (raw ∷ more)) ⊎ (left < octets_in zone.name (take (count + 1) (raw ∷ more))) → left < octets_in zone.name (raw ∷ [])
+    over_left (inl all) = absurd (omega (arith, all, none))
+    over_left (inr long) = subst (λ (k : ℕ). left < octets_in zone.name (take (k + 1) (raw ∷ more))) none long
+
+    over : (room : Option ℕ) → RoomBeside zone [] room → left ≡ unwrap_or room 0 → left < octets_in zone.name (raw ∷ []) → most_octets < length (part_octets zone [] (raw ∷ []))
+    over None beside is long = omega (arith, beside, part_long zone [] [], part_long zone [] (raw ∷ []))
+    over (Some n) beside is long = part_over zone [] (raw ∷ []) n beside (omega (arith, is, long))
+
+-- records have octets
+some_octets : (zone : Name) (records : List RawRecord) → 0 < length records → 0 < octets_in zone records
+some_octets zone [] some = absurd (omega (arith, some))
+some_octets zone (raw ∷ records) some = omega (arith, record_long zone raw, sum_by-cons (λ r. length (record_octets zone r)) raw records)
+
+-- one more message is put, of as many records as have room
+pub part_put : (zone : ZoneEntry) (records rest more : List RawRecord) (before messages after : List (List ℕ)) (room : Option ℕ) (left count : ℕ) → PutSoFar zone records rest before messages
+    → RoomBeside zone [] room → left ≡ unwrap_or room 0 → (count ≡ 0 → ⊥) → count ≤ length rest → octets_in zone.name (take count rest) ≤ left
+    → more ≡ take (length rest - count) (drop count rest) → after ≡ messages ++ part_octets zone [] (take count rest) ∷ [] → PutSoFar zone records more before after
+part_put zone records rest more before messages after room left count so_far beside is some within fit split put =
+    one_more_put zone records rest more before messages after (take count rest) so_far
+    (sym (take-append-drop count rest) ∙ ap (λ (rs : List RawRecord). take count rest ++ rs) (sym (take_rest rest count) ∙ sym split)) put_some (fits room beside is) put
+  where
+    put_some : 0 < length (take count rest)
+    put_some = by (length (take count rest)) (length-take-le count rest within)
+      where
+        by : (n : ℕ) → n ≡ count → 0 < n
+        by zero e = absurd (some (sym e))
+        by (suc n) e = omega arith
+
+    fits : (room : Option ℕ) → RoomBeside zone [] room → left ≡ unwrap_or room 0 → length (part_octets zone [] (take count rest)) ≤ most_octets
+    fits None beside is = absurd (omega (arith, some_octets zone.name (take count rest) put_some, is, fit))
+    fits (Some n) beside is = part_room zone [] (take count rest) n beside (omega (arith, is, fit))
+
+-- the messages of an update are a first one, and those that were put after it
+pub all_messages : (update : Update) (prerequisites records : List RawRecord) (room count : ℕ) (parts : List (List RawRecord)) (first : List ℕ) (before messages : List (List ℕ))
+    → prerequisites ≡ update.prerequisites → records ≡ update.updates → length (part_octets update.zone prerequisites []) + room ≡ most_octets
+    → octets_in update.zone.name (take count records) ≤ room → (count ≡ length records) ⊎ (room < octets_in update.zone.name (take (count + 1) records))
+    → flat_map (λ part. part) parts ≡ take (length records - count) (drop count records) → All (λ part. 0 < length part) parts
+    → All (λ part. length (part_octets update.zone [] part) ≤ most_octets) parts → first ≡ part_octets update.zone prerequisites (take count records) → before ≡ first ∷ []
+    → messages ≡ before ++ map (part_octets update.zone []) parts → AreMessages update messages
+all_messages update prerequisites records room count parts first before messages own all is fit most rest some short first_is alone put =
+    let same : Update = record update { prerequisites = prerequisites; updates = records } in
+    let equal : same ≡ update = λ i. record update { prerequisites = own i; updates = all i } in
+    subst (λ (u : Update). AreMessages u messages) equal
+    (are_messages same room count parts messages is fit most (rest ∙ take_rest records count) some short
+    (put ∙ (ap (λ (ms : List (List ℕ)). ms ++ map (part_octets update.zone []) parts) alone ∙ ap (λ (o : List ℕ). o ∷ map (part_octets update.zone []) parts) first_is)))

@@ -1,6 +1,5 @@
 -- The records of a change pass the prescan, and are records as they are read (RFC 2136, 3.4.1).
 use Rattle.std.proofs.Common.{◌≡◌, refl, sym, ap, ◌∙◌, Bool, true, false, ◌&&◌, ◌==◌, List, [], ◌∷◌, map, All, None}
-use Rattle.std.specs.Option.{option_or, is_some}
 use Rattle.std.specs.List.{AllByRecursion}
 use Rattle.std.proofs.lemmas.List.Elements.{All-from_recursion, recursion_from_All}
 use Rattle.dns_name.specs.Name.{is_under}

@@ -7,7 +7,6 @@ use Rattle.std.specs.List.{list_any}
 use Rattle.std.specs.Cmp.Lexicographic.{pointwise}
 use Rattle.dns_rdata.specs.Record.{Record}
 use Rattle.dns_rdata.specs.SerialOrder.{serial_less, serial_next}
-use Rattle.dns_message.specs.declared.query.Head.{Head}
 use Rattle.zone_tree.specs.Zone.{IsZone, soa_of, apex_of}
 use Rattle.zone_tree.specs.Change.{is_same_record, left_out}
 use Rattle.zone_tree.specs.Patch.{is_among}

@@ -2,8 +2,6 @@
 use Rattle.std.proofs.Common.{◌≡◌, refl, sym, ap, ◌∙◌, subst, ℕ, Bool, true, ◌&&◌, ◌||◌, ◌==◌, List, [], ◌∷◌, ◌++◌, map, flat_map, length, get_or, arith, if◌then◌else◌, Option, None, Some, unwrap_or}
 use Rattle.std.specs.Option.{IfSome, option_map}
 use Rattle.std.specs.List.{list_any, AllByRecursion}
-use Rattle.std.specs.Ordering.{is_eq}
-use Rattle.std.specs.Cmp.{first_so}
 use Rattle.std.specs.Cmp.Lexicographic.{pointwise}
 use Rattle.std.proofs.lemmas.List.{map-append}
 use Rattle.std.proofs.lemmas.Map.Views.{any-filter_same}
@@ -19,7 +17,7 @@ use Rattle.zone_tree.specs.Change.{is_same_record}
 use Rattle.zone_tree.specs.Patch.{is_among}
 use Rattle.zone_tree.specs.Sets.{records_in}
 use Rattle.zone_tree.specs.Version.{zone_serial}
-use Rattle.update_core.specs.Act.{at_serial, completed, effects}
+use Rattle.update_core.specs.Act.{at_serial, completed}
 use Rattle.update_core.proofs.ListLemmas.{by_test}
 use Rattle.update_core.proofs.EffectKeeps.{IsNext}
 use Rattle.zone_change.specs.Change.{as_sent, standing, servers_of, AreBeside}

@@ -11,7 +11,6 @@ use Rattle.dns_rdata.specs.Raw.{RawRecord}
 use Rattle.dns_rdata.specs.SerialOrder.{serial_less, serial_next}
 use Rattle.dns_message.specs.declared.query.Head.{Head}
 use Rattle.dns_message.specs.declared.update.Update.{Update}
-use Rattle.dns_message.specs.declared.update.ZoneEntry.{ZoneEntry}
 use Rattle.zone_tree.specs.Limits.{max_records}
 use Rattle.zone_tree.specs.Zone.{IsZone, soa_of, apex_of, rrset_of}
 use Rattle.zone_tree.specs.Change.{is_same_record, left_out}

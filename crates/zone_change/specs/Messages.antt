@@ -1,5 +1,5 @@
 -- The octets of an update as messages, one or more, which have its records between them (RFC 1035, 4.1; RFC 2136, 2).
-use Rattle.std.specs.Prelude.{◌≡◌, ◌≤◌, ◌<◌, ℕ, List, [], ◌∷◌, ◌++◌, length, map, sum_by, flat_map, All}
+use Rattle.std.specs.Prelude.{◌≡◌, ◌≤◌, ◌<◌, ◌⊎◌, ℕ, List, [], ◌∷◌, ◌++◌, length, map, sum_by, flat_map, All, Contains}
 use Rattle.dns_name.specs.Name.{Name}
 use Rattle.dns_rdata.specs.Raw.{RawRecord}
 use Rattle.dns_message.specs.declared.update.Update.{Update}
@@ -22,6 +22,14 @@ pub record AreMessages (update : Update) (messages : List (List ℕ)) : Type 0 w
   pub short : All (λ message. length message ≤ most_octets) messages
   pub some : All (λ part. 0 < length part) parts
   pub one : length (message_octets update) ≤ most_octets → parts ≡ []
+
+-- a record alone has more octets than a message may have
+abbrev pub HasLongRecord : ZoneEntry → List RawRecord → Type 0
+HasLongRecord zone records = (raw : RawRecord) × Contains records raw × (most_octets < length (part_octets zone [] (raw ∷ [])))
+
+-- or the prerequisites have
+abbrev pub IsTooLong : Update → Type 0
+IsTooLong update = (most_octets < length (part_octets update.zone update.prerequisites [])) ⊎ HasLongRecord update.zone update.updates
 
 -- how many octets records have in a message
 abbrev pub octets_in : Name → List RawRecord → ℕ

@@ -1,9 +1,9 @@
 //! The octets of an update as messages, one or more (RFC 1035, 4.1; RFC 2136, 2).
-ghost use Rattle.std.specs.Prelude.{◌≡◌, ◌≤◌, ◌<◌, ◌+◌, ◌-◌, ◌^◌, ◌++◌, ◌⊎◌, List, [], ◌∷◌, length, map, min, take, flat_map, All, Contains, IfOk, OnOk, MatchOption};
+ghost use Rattle.std.specs.Prelude.{◌≡◌, ◌≤◌, ◌<◌, ◌+◌, ◌-◌, ◌^◌, ◌++◌, ◌⊎◌, List, [], ◌∷◌, length, map, min, take, flat_map, All, IfOk, OnOk, MatchOption};
 ghost use Rattle.std.specs.Result.{IsErrOf};
 ghost use Rattle.dns_rdata.specs.Raw.{RawRecord as Raw};
 ghost use Rattle.zone_change.specs.Message.{most_octets, record_octets};
-ghost use Rattle.zone_change.specs.Messages.{part_octets, octets_in, AreMessages};
+ghost use Rattle.zone_change.specs.Messages.{part_octets, octets_in, AreMessages, HasLongRecord, IsTooLong};
 
 use crate::fault::ChangeFault;
 use crate::message::{MAX_MESSAGE, head_of, put_records, put_zone};
@@ -24,8 +24,7 @@ const RECORD: usize = 12;
 /// `TooLong` where the prerequisites alone have more octets, or a record alone, and `NoMemory` where a growth was refused.
 pub fn messages_of(alloc: Global, update: &Update) -> Result<Vec<Vec<u8>>, ChangeFault>
     ensures messages { IfOk result (λ messages. AreMessages update.now (map (λ message. message.items) messages.items)) }
-    ensures long { IsErrOf result ChangeFault.TooLong → (most_octets < length (part_octets update.now.zone update.now.prerequisites []))
-        ⊎ ((raw : Raw) × Contains update.now.updates raw × (most_octets < length (part_octets update.now.zone [] (raw ∷ [])))) }
+    ensures long { IsErrOf result ChangeFault.TooLong → IsTooLong update.now }
     ensures other { IsErrOf result ChangeFault.OtherApex → ⊥ }
     ensures room { IsErrOf result ChangeFault.NoRoom → ⊥ }
 {
@@ -51,7 +50,7 @@ fn put_rest(
     ensures rest { OnOk result ((parts : List (List Raw)) × (flat_map (λ part. part) parts ≡ records.now) × All (λ part. 0 < length part) parts
         × All (λ part. length (part_octets zone.now [] part) ≤ most_octets) parts
         × (map (λ message. message.items) messages.new.items ≡ map (λ message. message.items) messages.old.items ++ map (part_octets zone.now []) parts)) }
-    ensures long { IsErrOf result ChangeFault.TooLong → (raw : Raw) × Contains records.now raw × (most_octets < length (part_octets zone.now [] (raw ∷ []))) }
+    ensures long { IsErrOf result ChangeFault.TooLong → HasLongRecord zone.now records.now }
     ensures other { IsErrOf result ChangeFault.OtherApex → ⊥ }
     ensures room { IsErrOf result ChangeFault.NoRoom → ⊥ }
 {

@@ -14,6 +14,7 @@ ghost use Rattle.zone_tree.specs.Version.{AreChanges};
 ghost use Rattle.update_core.specs.Verdict.{prescan};
 ghost use Rattle.update_core.specs.Act.{effects, IsSent};
 ghost use Rattle.zone_change.specs.Change.{aimed, put_in, taken_out, standing, as_sent, servers_of, change_records, update_from, change_to, AreBeside, HasRoom};
+ghost use Rattle.zone_change.specs.Messages.{IsTooLong};
 
 use crate::change::{ZoneChange, change_between, delta_between};
 use crate::fault::ChangeFault;
@@ -28,10 +29,13 @@ use zone_tree::{Delta, Version, Zone, ZoneFault, ZoneRead, edit};
 /// RFC 1982, 3). None where they differ in nothing but such a serial.
 ///
 /// It costs a walk over both zones, side by side. `OtherApex` where the zones have different apexes, `NoRoom` where they share no NS at
-/// the apex and none can come before the others go (RFC 2136, 3.4.2.4), `NoMemory` where a growth was refused.
+/// the apex and none can come before the others go (RFC 2136, 3.4.2.4), `NoMemory` where a growth was refused. No record of the update
+/// is too long for a message.
 pub fn change_to(alloc: Global, old: &Zone, next: &Zone) -> Result<Option<Update>, ChangeFault>
     ensures update { IfOk result (λ found. MatchOption found (aimed old.now next.now ≡ old.now)
         (λ update. (update ≡ change_to old.now next.now) × (pointwise is_same_record old.now (aimed old.now next.now) ≡ false))) }
+    ensures fits { IfOk result (λ found. IfSome found (λ update. IsTooLong update → ⊥)) }
+    ensures zones { IfOk result (λ found. IsZone old.now × IsZone next.now × (apex_of old.now ≡ apex_of next.now)) }
     ensures other { IsErrOf result ChangeFault.OtherApex ↔ (is_same (apex_of old.now) (apex_of next.now) ≡ false) }
     ensures room { IsErrOf result ChangeFault.NoRoom → HasRoom old.now next.now → ⊥ }
     ensures long { IsErrOf result ChangeFault.TooLong → ⊥ }
