@@ -1,7 +1,7 @@
 -- The messages of an update are read again as its parts.
-use Rattle.std.proofs.Common.{◌≡◌, ◌==◌, ◌&&◌, ◌||◌, ◌⊎◌, inl, inr, ℕ, zero, suc, ◌+◌, ◌-◌, ◌^◌, ◌<◌, ◌≤◌, Bool, true, false, if◌then◌else◌, nat_lt, All, List, [], ◌∷◌, ◌++◌, length, map, flat_map, get_or, not, Option, Some, None, Ok, refl, sym, ap, subst, ◌∙◌, arith, lit<, option_map, option_and_then, is_some, IsSome, length-append, append_assoc, append-nil}
+use Rattle.std.proofs.Common.{◌≡◌, ◌==◌, ◌&&◌, ◌||◌, ◌⊎◌, inl, inr, ℕ, zero, suc, ◌+◌, ◌^◌, ◌<◌, ◌≤◌, Bool, true, false, if◌then◌else◌, nat_lt, All, List, [], ◌∷◌, ◌++◌, length, flat_map, get_or, not, Option, Some, None, Ok, refl, sym, ap, subst, ◌∙◌, arith, option_map, option_and_then, is_some, IsSome, length-append, append_assoc, append-nil}
 use Rattle.std.specs.Int.{to_be_bytes, w16, w32}
-use Rattle.std.proofs.lemmas.List.Elements.{All-nil, All-head, All-tail}
+use Rattle.std.proofs.lemmas.List.Elements.{All-head, All-tail}
 use Rattle.std.proofs.lemmas.Nat.{from_be_bytes-to_be_bytes_2}
 use Rattle.dns_name.specs.Name.{Name, IsName, wire_of, fold_name}
 use Rattle.dns_rdata.specs.Data.{data_by, data_of}
@@ -12,16 +12,14 @@ use Rattle.dns_rdata.specs.Raw.{RawRecord}
 use Rattle.dns_rdata.proofs.LayoutLemmas.{served_types-are}
 use Rattle.wire_names.specs.NameAt.{name_at}
 use Rattle.wire_names.specs.Spells.{Spells}
-use Rattle.dns_message.specs.Asked.{question_in_full, IsQuestion}
 use Rattle.dns_message.specs.Expanded.{octets_from, expanded_data}
-use Rattle.dns_message.specs.Message.{Entry, number_at}
-use Rattle.dns_message.specs.Reads.{opcode_of, header_of, is_reply, record_of, record_at, records_at}
+use Rattle.dns_message.specs.Message.{Entry}
+use Rattle.dns_message.specs.Reads.{opcode_of, header_of, is_reply, record_of, record_at}
 use Rattle.dns_message.specs.Request.{reads, update_of}
 use Rattle.dns_message.specs.Updates.{is_looked_at, octets_of, raw_with, raw_at, raws_at, zone_entry, zone_at, update_in}
 use Rattle.dns_message.specs.declared.query.Head.{Head}
 use Rattle.dns_message.specs.declared.query.Question.{Question}
-use Rattle.dns_message.specs.declared.query.Parsed.{Parsed}
-use Rattle.dns_message.specs.declared.query.Parsed.TheVariants.{Silent, Update as Asks}
+use Rattle.dns_message.specs.declared.query.Parsed.TheVariants.{Update as Asks}
 use Rattle.dns_message.specs.declared.update.Update.{Update}
 use Rattle.dns_message.specs.declared.update.ZoneEntry.{ZoneEntry}
 use Rattle.dns_message.proofs.ReadLemmas.{heard}
@@ -92,7 +90,7 @@ fields_long raw = refl
 
 -- where a record stands in a message: after octets, and before others
 module _ (section : _) (zone : Name) (whole front rest : List ℕ) (next : ℕ) (raw : RawRecord) (is : IsAgain zone raw) (sent : IsSent raw) (seen : (at : ℕ) → is_looked_at section (entry_for raw at) ≡ true)
-  (lies : whole ≡ front ++ (record_octets zone raw ++ rest)) (low : 12 < length front) (short : length raw.octets < 2 ^ 16) (there : Spells whole 12 12 zone next) where
+    (lies : whole ≡ front ++ (record_octets zone raw ++ rest)) (low : 12 < length front) (short : length raw.octets < 2 ^ 16) (there : Spells whole 12 12 zone next) where
   abbrev owner : List ℕ
   owner = labels_octets is.labels ++ to_zone
 
@@ -230,11 +228,11 @@ part_read zone prerequisites updates name rtype class again standing also sent m
     let n1 = n0 + length first in
     let n2 = n1 + length more in
     let first_seen = λ (k : ℕ) (d : RawRecord) (within : k < length prerequisites) (at : ℕ).
-        let raw = get_or prerequisites k d in
-        condition_seen (is_some (layout_of raw.rtype)) raw.class (length raw.octets) (has_layout raw.rtype raw.octets raw.octets (again k d within).form) (standing k d within) in
+    let raw = get_or prerequisites k d in
+    condition_seen (is_some (layout_of raw.rtype)) raw.class (length raw.octets) (has_layout raw.rtype raw.octets raw.octets (again k d within).form) (standing k d within) in
     let more_seen = λ (k : ℕ) (d : RawRecord) (within : k < length updates) (at : ℕ).
-        let raw = get_or updates k d in
-        update_seen (is_some (layout_of raw.rtype)) raw.class (has_layout raw.rtype raw.octets raw.octets (also k d within).form) (sent k d within) in
+    let raw = get_or updates k d in
+    update_seen (is_some (layout_of raw.rtype)) raw.class (has_layout raw.rtype raw.octets raw.octets (also k d within).form) (sent k d within) in
     let after_first =
     prerequisites_seen header whole (zone, n0) (length prerequisites) (Some (prerequisites, n1)) zone_is (sym (from_be_bytes-to_be_bytes_2 (length prerequisites) counted))
     (raws_from _ zone.name whole (12 + length (wire_of zone.name)) prerequisites (head ++ entry) more n0 n1 most there again (λ k d within. inl (standing k d within)) first_seen split

@@ -1,6 +1,7 @@
 -- How a request's messages are read as an update.
-use Rattle.std.proofs.Common.{◌≡◌, ℕ, ◌<◌, ◌+◌, List, [], ◌∷◌, ◌++◌, Some, length, take, map, flat_map, get_or, refl, sym, ap, ◌∙◌, subst, append-nil, append_assoc, arith, Bor}
-use Rattle.std.specs.Prelude.{Option, None, MatchOption}
+use Rattle.std.proofs.Common.{◌≡◌, ℕ, zero, suc, ◌<◌, ◌≤◌, ◌+◌, List, [], ◌∷◌, ◌++◌, Some, length, take, map, flat_map, get_or, refl, sym, ap, ◌∙◌, subst, append-nil, append_assoc, arith, Bor}
+use Rattle.std.specs.Prelude.{Option, None, Result, MatchOption, IfOk}
+use Rattle.std.proofs.lemmas.Result.{IfOk-weaker}
 use Rattle.std.proofs.lemmas.List.{length-map, get_or-map, take_more, take_all, map_push}
 use Rattle.std.proofs.lemmas.List.Concat.{flat_map-append}
 use Rattle.dns_rdata.specs.Raw.{RawRecord}
@@ -80,7 +81,7 @@ one_more_part messages all first records more message part so_far e is_all is_mo
 pub part_at : (messages : Messages) (parts : List Update) (k : ℕ) → AreParts messages parts → k < length messages → (update : Update) × (reads (get_or messages k []) ≡ Asks update)
 part_at [] parts k are within = absurd (omega (arith, within))
 part_at (message ∷ messages) [] k are within = absurd are
-part_at (message ∷ messages) (part ∷ parts) 0 are within = (part, are.0)
+part_at (message ∷ messages) (part ∷ parts) zero are within = (part, are.0)
 part_at (message ∷ messages) (part ∷ parts) (suc k) are within = part_at messages parts k are.1 (omega (arith, within))
 
 -- the same of lent messages
@@ -110,3 +111,27 @@ told_some found x P Q e reported = subst (λ o. MatchOption o P Q) e reported
 
 pub told_none : {X : Type 0} (found : Option X) (P : Type 0) (Q : X → Type 0) → found ≡ None → MatchOption found P Q → P
 told_none found P Q e reported = subst (λ o. MatchOption o P Q) e reported
+
+-- a request whose first message is read as an update is read by what the further ones are read as
+pub request_read : (first : List ℕ) (more : Messages) (update : Update) (found : Option Update) → reads first ≡ Asks update
+    → MatchOption found ((parts : List Update) → AreParts more parts → ⊥)
+    (λ whole. (parts : List Update) × AreParts more parts × (whole ≡ record update { updates = update.updates ++ flat_map (λ part. part.updates) parts }))
+    → MatchOption found ((whole : Update) → IsRead (first ∷ more) whole → ⊥) (λ whole. IsRead (first ∷ more) whole)
+request_read first more update None e none = λ whole is. refuted is.parts is.are_parts
+  where
+    refuted : (parts : List Update) → AreParts (first ∷ more) parts → ⊥
+    refuted [] are = are
+    refuted (part ∷ parts) are = none parts are.1
+request_read first more update (Some whole) e found = record { parts = update ∷ found.0; are_parts = (e, found.1); is = ap Some (sym found.2) }
+
+-- the same of a lent request
+pub lent_told : {E : Type 0} (lent more : List (Bor (List ℕ))) (first : Bor (List ℕ)) (update : Update) (r : Result (Option Update) E) → lent ≡ first ∷ more → reads first.now ≡ Asks update
+    → IfOk r (λ found. MatchOption found ((parts : List Update) → AreParts (now_of more) parts → ⊥)
+    (λ whole. (parts : List Update) × AreParts (now_of more) parts × (whole ≡ record update { updates = update.updates ++ flat_map (λ part. part.updates) parts })))
+    → IfOk r (λ found. MatchOption found ((whole : Update) → IsRead (now_of lent) whole → ⊥) (λ whole. IsRead (now_of lent) whole))
+lent_told lent more first update r split e told =
+    subst (λ (ls : List (Bor (List ℕ))). IfOk r (λ found. MatchOption found ((whole : Update) → IsRead (now_of ls) whole → ⊥) (λ whole. IsRead (now_of ls) whole))) (sym split)
+    (IfOk-weaker r (λ found. MatchOption found ((parts : List Update) → AreParts (now_of more) parts → ⊥)
+    (λ whole. (parts : List Update) × AreParts (now_of more) parts × (whole ≡ record update { updates = update.updates ++ flat_map (λ part. part.updates) parts })))
+    (λ found. MatchOption found ((whole : Update) → IsRead (first.now ∷ now_of more) whole → ⊥) (λ whole. IsRead (first.now ∷ now_of more) whole))
+    (λ found told. request_read first.now (now_of more) update found e told) told)

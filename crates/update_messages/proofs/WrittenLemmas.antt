@@ -1,5 +1,5 @@
 -- The messages of the update that takes a zone to another one are read as that update.
-use Rattle.std.proofs.Common.{◌≡◌, ℕ, ◌^◌, ◌<◌, ◌≤◌, ◌⊎◌, inl, inr, List, [], ◌∷◌, ◌++◌, length, map, flat_map, take, drop, Some, refl, sym, ap, subst, ◌∙◌, arith, lit<}
+use Rattle.std.proofs.Common.{◌≡◌, ℕ, ◌^◌, ◌<◌, ◌≤◌, inl, inr, List, [], ◌∷◌, ◌++◌, length, map, flat_map, take, drop, Some, refl, sym, ap, subst, ◌∙◌, arith, lit<}
 use Rattle.std.specs.Prelude.{All}
 use Rattle.std.proofs.lemmas.List.{take_at, drop_at}
 use Rattle.std.proofs.lemmas.List.Elements.{All-nil, All-cons, All-head, All-tail, All-same, All-take, All-drop}
@@ -8,14 +8,13 @@ use Rattle.dns_name.proofs.LawLemmas.{ending_from_under}
 use Rattle.dns_rdata.specs.Numbers.{class_IN}
 use Rattle.dns_rdata.specs.Record.{Record, owner_of}
 use Rattle.dns_rdata.specs.Raw.{RawRecord}
-use Rattle.dns_message.specs.declared.update.Update.{Update}
 use Rattle.dns_message.specs.declared.update.ZoneEntry.{ZoneEntry}
 use Rattle.zone_tree.specs.Zone.{IsZone, soa_of, apex_of}
 use Rattle.zone_change.specs.Change.{put_in, taken_out, standing, change_to}
 use Rattle.zone_change.specs.Messages.{part_octets, AreMessages}
 use Rattle.zone_change.proofs.SizeLemmas.{IsOurs, OwnSoa, own_soa, each_changed}
 use Rattle.journal.specs.Batch.{Messages}
-use Rattle.update_messages.specs.Joined.{joined, AreParts, IsRead}
+use Rattle.update_messages.specs.Joined.{AreParts, IsRead}
 use Rattle.update_messages.proofs.AgainLemmas.{IsAgain, IsSent, update_with, part_read}
 
 -- what is so of each of some records is so of each of their first, and of each of the others
@@ -31,12 +30,11 @@ parts_read : (zone : ZoneEntry) → IsName zone.name → zone.rtype.0 < 2 ^ 16 �
     → AreParts (map (part_octets zone []) parts) (map (update_with zone []) parts)
 parts_read zone name rtype class [] again sent short = tt
 parts_read zone name rtype class (part ∷ parts) again sent short =
-    let others = flat_map (λ (p : List RawRecord). p) parts in
-    (
+    let others = flat_map (λ (p : List RawRecord). p) parts in (
       part_read zone [] part name rtype class (All-nil (IsAgain zone.name)) (All-nil (λ raw. raw.class ≡ class_IN)) (all_first (IsAgain zone.name) part others again)
-      (all_first IsSent part others sent) (All-head (λ (o : List ℕ). length o ≤ 65535) (part_octets zone [] part) (map (part_octets zone []) parts) short),
+          (all_first IsSent part others sent) (All-head (λ (o : List ℕ). length o ≤ 65535) (part_octets zone [] part) (map (part_octets zone []) parts) short),
       parts_read zone name rtype class parts (all_others (IsAgain zone.name) part others again) (all_others IsSent part others sent)
-      (All-tail (λ (o : List ℕ). length o ≤ 65535) (part_octets zone [] part) (map (part_octets zone []) parts) short),
+          (All-tail (λ (o : List ℕ). length o ≤ 65535) (part_octets zone [] part) (map (part_octets zone []) parts) short),
     )
 
 parts_updates : (zone : ZoneEntry) (parts : List (List RawRecord)) → flat_map (λ part. part.updates) (map (update_with zone []) parts) ≡ flat_map (λ part. part) parts

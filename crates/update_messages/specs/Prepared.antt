@@ -1,5 +1,5 @@
 -- The update that takes a zone to another one, as it is stored and submitted (RFC 2136; own).
-use Rattle.std.specs.Prelude.{◌≡◌, ◌≤◌, ◌<◌, ℕ, ⊤, List, false, length}
+use Rattle.std.specs.Prelude.{◌≡◌, ◌≤◌, ◌<◌, ⊤, List, false, length}
 use Rattle.dns_name.specs.Name.{is_same}
 use Rattle.dns_rdata.specs.Record.{Record}
 use Rattle.dns_message.specs.declared.update.Update.{Update}

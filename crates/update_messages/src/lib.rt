@@ -2,7 +2,8 @@
 //!
 //! Over the network an update is one message. A server that makes an update itself, of more records than one message has, has it in several: each is
 //! an update of its own by its form, and they are one update, the first of them with the records of all ([`read_request`]). Contracts see what messages
-//! are read as (`IsRead`). [`prepare_change`] makes the update that takes a zone to another one.
+//! are read as (`IsRead`). [`prepare_change`] makes the update that takes a zone to another one; its messages are read as that update again
+//! ([`a_change_is_read_again`]).
 #![tactic(auto)]
 
 mod laws;

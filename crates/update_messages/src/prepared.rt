@@ -1,8 +1,6 @@
 //! The update that takes a zone to another one, as it is stored and submitted (RFC 2136; own).
-ghost use Rattle.std.specs.Prelude.{◌≡◌, ◌≤◌, ◌<◌, length, map, IfOk, IfErr};
-ghost use Rattle.std.specs.Result.{IsErrOf};
+ghost use Rattle.std.specs.Prelude.{◌≡◌, ◌≤◌, length, map, IfOk, IfErr};
 ghost use Rattle.journal.specs.Batch.{request_octets, IsRequest};
-ghost use Rattle.update_messages.specs.Joined.{IsRead};
 ghost use Rattle.update_messages.specs.Prepared.{IsPreparedFrom, IsMessagesFault, IsPrepareFault};
 ghost use Rattle.zone_change.specs.Messages.{AreMessages, IsTooLong};
 
