@@ -1,7 +1,9 @@
 -- What one more update adds to those that are judged so far.
-use Rattle.journal.specs.Batch.{Messages}
-use Rattle.std.proofs.Common.{◌≡◌, ℕ, ◌+◌, ◌<◌, ◌≤◌, zero, suc, List, [], ◌∷◌, ◌++◌, length, get_or, map, refl, sym, ap, ◌∙◌, subst, arith}
-use Rattle.std.proofs.lemmas.List.{length_push}
+use Rattle.journal.specs.Batch.{Messages, batch_of, request_octets}
+use Rattle.journal.specs.Frame.{body_limit}
+use Rattle.std.proofs.Common.{◌≡◌, ℕ, ◌+◌, ◌<◌, ◌≤◌, zero, suc, List, [], ◌∷◌, ◌++◌, length, drop, get_or, refl, sym, ap, ◌∙◌, subst, append-nil, length-append, arith}
+use Rattle.std.proofs.lemmas.List.{length_push, drop_more, drop_all}
+use Rattle.std.proofs.lemmas.List.Concat.{flat_map-append}
 use Rattle.dns_rdata.specs.declared.numbers.Rcode.{Rcode}
 use Rattle.zone_tree.specs.Version.{Version}
 use Rattle.update_batches.specs.Engine.{IsLast, AreMade}
@@ -57,11 +59,34 @@ updates_push : (updates : List VersionUpdate) (update : VersionUpdate) → updat
 updates_push [] update = refl
 updates_push (x ∷ updates) update = ap (λ (os : List Messages). x.messages ∷ os) (updates_push updates update)
 
+-- how many octets the batch of one request more has
+pub batch_long : (requests : List Messages) (request : Messages) → length (batch_of (requests ++ request ∷ [])) ≡ length (batch_of requests) + length (request_octets request)
+batch_long requests request =
+    omega (
+      arith,
+      ap length (flat_map-append request_octets requests (request ∷ [])),
+      ap length (append-nil (request_octets request)),
+      length-append (batch_of requests) (batch_of (request ∷ [])),
+    )
+
+-- the octets of updates are counted, one update after the other
+pub counted_more : (updates : List VersionUpdate) (i : ℕ) (x : VersionUpdate) (len whole : ℕ) → i < length updates → x ≡ get_or updates i x
+    → len + length (batch_of (updates_of (drop i updates))) ≡ whole
+    → (len + length (request_octets x.messages)) + length (batch_of (updates_of (drop (i + 1) updates))) ≡ whole
+counted_more updates i x len whole within is so_far =
+    let left : batch_of (updates_of (drop i updates)) ≡ request_octets x.messages ++ batch_of (updates_of (drop (i + 1) updates)) =
+    ap (λ (us : List VersionUpdate). batch_of (updates_of us)) (drop_more updates i x within ∙ ap (λ (u : VersionUpdate). u ∷ drop (i + 1) updates) (sym is)) in
+    omega (arith, so_far, ap length left, length-append (request_octets x.messages) (batch_of (updates_of (drop (i + 1) updates))))
+
+pub all_counted : (updates : List VersionUpdate) (i len whole : ℕ) → length updates ≤ i → len + length (batch_of (updates_of (drop i updates))) ≡ whole → len ≡ whole
+all_counted updates i len whole end so_far =
+    omega (arith, so_far, ap (λ (us : List VersionUpdate). length (batch_of (updates_of us))) (drop_all i updates end))
+
 module _ (first : Version) (room : ℕ) where
   pub none_so_far : (verdicts : List Verdict) (updates : List VersionUpdate) → verdicts ≡ [] → updates ≡ [] → IsBatch first [] verdicts updates room
   none_so_far verdicts updates no_verdicts no_updates =
       subst (λ (cs : List Verdict). IsBatch first [] cs updates room) (sym no_verdicts)
-      (subst (λ (us : List VersionUpdate). IsBatch first [] [] us room) (sym no_updates) (record { judged = nothing; few = omega arith }))
+      (subst (λ (us : List VersionUpdate). IsBatch first [] [] us room) (sym no_updates) (record { judged = nothing; few = omega arith; short = omega arith }))
 
   -- each request has a verdict
   pub judged_long : {requests : List QueuedUpdate} {verdicts : List Verdict} {made : List Version} {updates : List Messages} → Judged first requests verdicts made updates
@@ -92,7 +117,7 @@ module _ (first : Version) (room : ℕ) where
       → IsBatch first (requests ++ one ∷ []) (verdicts ++ verdict ∷ []) updates room
   told_more requests verdicts updates one code verdict so_far is same =
       subst (λ (v : Verdict). IsBatch first (requests ++ one ∷ []) (verdicts ++ v ∷ []) updates room) (sym same)
-      (record { judged = reported one code so_far.judged is; few = so_far.few })
+      (record { judged = reported one code so_far.judged is; few = so_far.few; short = so_far.short })
 
   pub starved_more : (requests : List QueuedUpdate) (verdicts : List Verdict) (updates all : List VersionUpdate) (one : QueuedUpdate) (verdict : Verdict)
       → IsBatch first requests verdicts updates room → passes (newest_of first (versions_in updates)) one.request → verdict ≡ failed → all ≡ updates
@@ -100,22 +125,27 @@ module _ (first : Version) (room : ℕ) where
   starved_more requests verdicts updates all one verdict so_far is same same_updates =
       subst (λ (us : List VersionUpdate). IsBatch first (requests ++ one ∷ []) (verdicts ++ verdict ∷ []) us room) (sym same_updates)
       (subst (λ (v : Verdict). IsBatch first (requests ++ one ∷ []) (verdicts ++ v ∷ []) updates room) (sym same)
-      (record { judged = starved one so_far.judged is; few = so_far.few }))
+      (record { judged = starved one so_far.judged is; few = so_far.few; short = so_far.short }))
 
   pub changed_more : (requests : List QueuedUpdate) (verdicts : List Verdict) (updates all : List VersionUpdate) (one : QueuedUpdate) (next : Version) (verdict : Verdict)
       (update : VersionUpdate) → IsBatch first requests verdicts updates room → passes (newest_of first (versions_in updates)) one.request
       → makes (newest_of first (versions_in updates)) one.request next → verdict ≡ made_verdict (serial_in (newest_of first (versions_in updates))) (serial_in next)
       → length updates < room → all ≡ updates ++ update ∷ [] → update.version ≡ next → update.messages ≡ messages_of one.request
+      → length (batch_of (updates_of all)) < body_limit
       → IsBatch first (requests ++ one ∷ []) (verdicts ++ verdict ∷ []) all room
-  changed_more requests verdicts updates all one next verdict update so_far lets is same few is_all version octets =
+  changed_more requests verdicts updates all one next verdict update so_far lets is same few is_all version octets short =
       let made : versions_in (updates ++ update ∷ []) ≡ versions_in updates ++ next ∷ [] =
       versions_push updates update ∙ ap (λ (v : Version). versions_in updates ++ v ∷ []) version in
       let kept : updates_of (updates ++ update ∷ []) ≡ updates_of updates ++ messages_of one.request ∷ [] =
-      updates_push updates update ∙ ap (λ (o : List ℕ). updates_of updates ++ o ∷ []) octets in
+      updates_push updates update ∙ ap (λ (o : Messages). updates_of updates ++ o ∷ []) octets in
       let after : List Verdict = verdicts ++ made_verdict (serial_in (newest_of first (versions_in updates))) (serial_in next) ∷ [] in
       let judged : Judged first (requests ++ one ∷ []) after (versions_in (updates ++ update ∷ [])) (updates_of (updates ++ update ∷ [])) =
       subst (λ (vs : List Version). Judged first (requests ++ one ∷ []) after vs (updates_of (updates ++ update ∷ []))) (sym made)
       (subst (λ (os : List Messages). Judged first (requests ++ one ∷ []) after (versions_in updates ++ next ∷ []) os) (sym kept) (changed one next so_far.judged lets is)) in
       subst (λ (v : Verdict). IsBatch first (requests ++ one ∷ []) (verdicts ++ v ∷ []) all room) (sym same)
       (subst (λ (us : List VersionUpdate). IsBatch first (requests ++ one ∷ []) after us room) (sym is_all)
-      (record { judged = judged; few = omega (arith, few, length_push updates update) }))
+      (record {
+        judged = judged;
+        few = omega (arith, few, length_push updates update);
+        short = subst (λ (us : List VersionUpdate). length (batch_of (updates_of us)) < body_limit) is_all short;
+      }))

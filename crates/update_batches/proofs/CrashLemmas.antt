@@ -1,6 +1,6 @@
 -- Calls on a store, one after another, that a crash may end at any moment.
 use Rattle.journal.specs.Batch.{Messages}
-use Rattle.std.proofs.Common.{◌≡◌, ℕ, List, [], ◌++◌, sym, subst, append-nil}
+use Rattle.std.proofs.Common.{List, [], sym, subst, append-nil}
 use Rattle.dns_rdata.specs.Record.{Record}
 use Rattle.zone_tree.specs.Version.{Version}
 use Rattle.update_batches.specs.Turned.{IsCrashSafe, uncalled, called}

@@ -3,7 +3,6 @@ use Rattle.journal.specs.Batch.{Messages}
 use Rattle.std.proofs.Common.{◌≡◌, refl, ℕ, zero, suc, ◌+◌, ◌≤◌, List, [], ◌∷◌, ◌++◌, length, Option, None, Some, inl, inr, sym, ap, ◌∙◌, subst, append-nil, append_assoc, arith}
 use Rattle.std.specs.Prelude.{replicate, drop, MatchOption, ◌<◌}
 use Rattle.std.proofs.lemmas.List.{length_push}
-use Rattle.dns_rdata.specs.declared.numbers.Rcode.{Rcode}
 use Rattle.zone_tree.specs.Version.{Version}
 use Rattle.update_batches.specs.Engine.{IsLast}
 use Rattle.update_batches.specs.declared.verdict.Verdict.{Verdict}

@@ -10,6 +10,7 @@ use Rattle.update_batches.specs.Batch.{newest_of, Judged, nothing, reported, sta
 use Rattle.update_batches.specs.declared.queued_update.QueuedUpdate.{QueuedUpdate}
 use Rattle.update_batches.specs.UpdateRequest.{messages_of}
 use Rattle.update_batches.specs.Journal.{AreMadeBy}
+use Rattle.update_batches.proofs.ReadLemmas.{read_is}
 
 made_more : (first : Version) (versions : List Version) (updates : List Messages) (messages : Messages) (update : Update) (next : Version) → AreMadeBy first versions updates → IsRead messages update → Makes update (newest_of first versions) next
     → AreMadeBy first (versions ++ next ∷ []) (updates ++ messages ∷ [])
@@ -22,4 +23,4 @@ pub judged_by : {first : Version} {asked : List QueuedUpdate} {verdicts : List V
 judged_by nothing = tt
 judged_by (reported one code judged is) = judged_by judged
 judged_by (starved one judged is) = judged_by judged
-judged_by {first} (changed {requests} {verdicts} {made} {updates} one next judged lets is) = made_more first made updates (messages_of one.request) one.request.update next (judged_by judged) one.request.read is
+judged_by {first} (changed {requests} {verdicts} {made} {updates} one next judged lets is) = made_more first made updates (messages_of one.request) one.request.update next (judged_by judged) (read_is (messages_of one.request) one.request.update one.request.read) is

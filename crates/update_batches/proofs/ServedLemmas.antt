@@ -1,7 +1,7 @@
 -- Turns, one after the other.
 use Rattle.journal.specs.Batch.{Messages}
-use Rattle.std.proofs.Common.{◌≡◌, refl, ℕ, zero, suc, ◌+◌, ◌<◌, List, [], ◌∷◌, ◌++◌, length, Option, None, Some, sym, ap, ◌∙◌, subst, append-nil, append_assoc, length-append, arith}
-use Rattle.std.specs.Prelude.{drop, replicate}
+use Rattle.std.proofs.Common.{◌≡◌, refl, ℕ, zero, suc, List, [], ◌∷◌, ◌++◌, length, Option, None, Some, sym, ap, ◌∙◌, subst, append-nil, append_assoc, length-append, arith}
+use Rattle.std.specs.Prelude.{replicate}
 use Rattle.dns_rdata.specs.Record.{Record}
 use Rattle.update_batches.specs.Engine.{IsLast}
 use Rattle.update_batches.specs.declared.verdict.Verdict.{Verdict}
@@ -13,7 +13,7 @@ use Rattle.update_batches.specs.declared.queued_update.QueuedUpdate.{QueuedUpdat
 use Rattle.update_batches.specs.UpdateRequest.{messages_of}
 use Rattle.zone_tree.specs.Version.{Version}
 use Rattle.update_batches.specs.Replies.{Reply}
-use Rattle.update_batches.specs.Turned.{ThreadState, Lasts, Fails, IsTold, HasTurned, AreAnswered, unasked, lasting, failing, HasServed, IsCrashSafe, uncalled}
+use Rattle.update_batches.specs.Turned.{ThreadState, IsTold, HasTurned, AreAnswered, unasked, lasting, failing, HasServed, IsCrashSafe, uncalled}
 use Rattle.update_batches.proofs.CrashLemmas.{safe_both}
 
 -- so many of the same

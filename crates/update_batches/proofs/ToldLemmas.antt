@@ -1,6 +1,6 @@
 -- What becomes of a batch that is judged, written to a store and published.
 use Rattle.journal.specs.Batch.{Messages}
-use Rattle.std.proofs.Common.{◌≡◌, refl, ℕ, zero, suc, ◌+◌, ◌<◌, ◌≤◌, List, [], ◌∷◌, ◌++◌, take, map, Option, None, Some, inl, inr, length, ◌⊎◌, sym, ap, ◌∙◌, subst, append-nil, length-append, arith}
+use Rattle.std.proofs.Common.{◌≡◌, refl, ℕ, zero, suc, ◌+◌, ◌<◌, ◌≤◌, List, [], ◌∷◌, ◌++◌, take, Option, None, Some, inl, inr, length, ◌⊎◌, sym, ap, ◌∙◌, subst, append-nil, length-append, arith}
 use Rattle.std.specs.Prelude.{replicate, drop, min, MatchOption}
 use Rattle.std.proofs.lemmas.Bool.{cases_lt}
 use Rattle.std.proofs.lemmas.List.{length-take, drop_all}
@@ -13,7 +13,7 @@ use Rattle.update_batches.specs.declared.queued_update.QueuedUpdate.{QueuedUpdat
 use Rattle.update_batches.specs.declared.version_update.VersionUpdate.{VersionUpdate}
 use Rattle.update_batches.specs.Batch.{versions_in, updates_of, IsBatch, Judged}
 use Rattle.update_batches.specs.Journal.{AreMadeBy}
-use Rattle.update_batches.proofs.BatchLemmas.{judged_long, judged_made}
+use Rattle.update_batches.proofs.BatchLemmas.{judged_long}
 use Rattle.update_batches.proofs.LastingLemmas.{judged_by}
 use Rattle.update_batches.specs.Turned.{IsTold, IsCrashSafe, uncalled, called}
 use Rattle.update_batches.proofs.CrashLemmas.{safe_same, safe_both}

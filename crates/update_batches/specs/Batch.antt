@@ -1,5 +1,5 @@
 -- Updates judged one after another, and written together (RFC 2136, 3).
-use Rattle.std.specs.Prelude.{◌≡◌, ◌≤◌, ◌<◌, ℕ, List, [], ◌∷◌, ◌++◌, length, map}
+use Rattle.std.specs.Prelude.{◌≤◌, ◌<◌, ℕ, List, [], ◌∷◌, ◌++◌, length, map}
 use Rattle.dns_rdata.specs.declared.numbers.Rcode.{Rcode}
 use Rattle.zone_tree.specs.Version.{Version}
 use Rattle.journal.specs.Batch.{Messages, batch_of}

@@ -2,6 +2,7 @@ pub mod Batch
 pub mod Done
 pub mod Engine
 pub mod Journal
+pub mod ReadAs
 pub mod Replies
 pub mod Turned
 pub mod UpdateRequest

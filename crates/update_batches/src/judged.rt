@@ -47,6 +47,7 @@ fn judge_one(
     room: usize,
     updates: &mut Vec<VersionUpdate>,
 ) -> Verdict
+    requires { length (batch_of (updates_of updates.old.items)) < body_limit }
     ensures { (requests : List Queued) (verdicts : List VerdictOf) → IsBatch first.now requests verdicts updates.old.items room
         → IsBatch first.now (requests ++ one.now ∷ []) (verdicts ++ result ∷ []) updates.new.items room }
 {

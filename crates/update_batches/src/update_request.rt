@@ -1,8 +1,10 @@
 //! An update that is asked for (RFC 2136, 2).
-ghost use Rattle.std.specs.Prelude.{◌≡◌, ◌≤◌, ◌^◌, [], ◌∷◌, length, MatchOption};
+ghost use Rattle.std.specs.Prelude.{◌≡◌, ◌≤◌, ◌^◌, [], ◌∷◌, Some, length, MatchOption};
+ghost use Rattle.std.specs.Coded.{Coded-set, coded_option};
 ghost use Rattle.dns_message.specs.Request.{reads};
 ghost use Rattle.dns_message.specs.declared.query.Parsed.TheVariants.{Update as Says};
 ghost use Rattle.update_messages.specs.Joined.{IsRead};
+ghost use Rattle.update_batches.specs.ReadAs.{read_as};
 
 use dns_message::Update;
 use journal::RequestMessages;
@@ -16,7 +18,7 @@ pub struct UpdateRequest {
     pub(crate) messages: RequestMessages,
     /// Whether its peer may update.
     pub(crate) may: bool,
-    ghost read: { IsRead messages update },
+    ghost read: { read_as messages ≡ Some update } by { Coded-set (coded_option update-code) (read_as messages) (Some update) },
 }
 
 impl Drop for UpdateRequest {
@@ -31,7 +33,7 @@ impl Drop for UpdateRequest {
 
 impl UpdateRequest {
     /// An update that was read of one message of these octets, sent by a peer that may update, or may not. None where they are more than 65,535.
-    #[tactic(auto, using(update_messages::proofs::JoinedLemmas::one_read))]
+    #[tactic(auto, using(update_messages::proofs::JoinedLemmas::one_read, crate::proofs::RequestLemmas::too_long))]
     pub fn of(alloc: Global, update: Update, octets: Vec<u8>, may: bool) -> Option<UpdateRequest>
         requires { reads octets.items ≡ Says update }
         ensures { MatchOption result (2 ^ 16 ≤ length octets.items) (λ asked. (asked.update ≡ update) × (asked.messages ≡ octets.items ∷ []) × (asked.may ≡ may)) }
@@ -53,6 +55,7 @@ impl UpdateRequest {
     }
 
     /// The update.
+    #[tactic(auto, using(crate::proofs::ReadLemmas::read_is))]
     pub fn update(&self) -> &Update
         ensures update { result.now ≡ self.now.update }
         ensures read { IsRead self.now.messages result.now }

@@ -35,14 +35,14 @@ returns-then-put c requests verdicts so_far =
     let updates = c.args.updates.now.items in
     let next = c.in-Made.next in
     let newest = c.newest_of-newest.ensures ∙ ap (λ us. newest_of first (versions_in us)) c.deref.ensures.value in
-    let put = c.if-put.ensures in
+    let put = c.if-put.ensures.put in
     changed_more first c.args.room requests verdicts updates c.put.new.updates.items c.args.one.now next c.made-made.result put.0 so_far
     (same_three (λ (v : Version) (u : Update) (m : Bool). verdict v.zone u m ≡ None) _ _ _ _ _ _ newest c.update.ensures.update c.may.ensures c.in-Made.ensures.0)
     (same_three (λ (v : Version) (u : Update) (m : Bool). Makes u v next) _ _ _ _ _ _ newest c.update.ensures.update c.may.ensures c.in-Made.ensures.1)
     (c.made-made.ensures
     ∙ ap (λ n. made_verdict n c.serial.result.0) (c.serial-before.ensures ∙ ap (λ v. serial_in v) (c.get.ensures ∙ newest))
     ∙ ap (λ n. made_verdict (serial_in (newest_of first (versions_in updates))) n) (c.serial.ensures ∙ ap (λ v. serial_in v) c.get-in-Made.ensures))
-    put.4 put.1 put.2 (put.3 ∙ c.octets.ensures.octets)
+    put.4 put.1 put.2 (put.3 ∙ c.messages.ensures) c.put.ensures.short
 
 pub returns-else-put : goal.returns-else-put
 returns-else-put c requests verdicts so_far =
@@ -51,4 +51,4 @@ returns-else-put c requests verdicts so_far =
     let newest = c.newest_of-newest.ensures ∙ ap (λ us. newest_of first (versions_in us)) c.deref.ensures.value in
     starved_more first c.args.room requests verdicts updates c.put.new.updates.items c.args.one.now c.failed-else-put.result so_far
     (same_three (λ (v : Version) (u : Update) (m : Bool). verdict v.zone u m ≡ None) _ _ _ _ _ _ newest c.update.ensures.update c.may.ensures c.in-Made.ensures.0)
-    c.failed-else-put.ensures c.if-put.ensures
+    c.failed-else-put.ensures c.if-put.ensures.put

@@ -18,7 +18,7 @@ use types.ByLocal.{alloc_all, pass_all, free_all, look_at, sets}
 use sound.WpLaws.{WpFn-mono}
 use denote.RattleType.{owns}
 use denote.Memory.{mem}
-use denote.Ref.{MutRef, mut_vals, mut_Tells}
+use denote.Ref.{MutRef, ShrRef, mut_vals, mut_Tells, shr_vals, shr_Tells}
 use denote.Signature.{plain}
 use denote.Steps.{opens, closes}
 use denote.Triple.Entry.{on_entry}
@@ -26,6 +26,8 @@ use denote.Triple.Spec.{Meets, triple_of}
 use denote.Triple.Table.{entered}
 use denote.Triple.Walked.{says, Stays, stay_ref, walk_of, AllGo, Goes-ref, Walks, ends_at, walked, walk_Meets}
 use Rattle.update_batches.specs.declared.replies.ReplyList.{ReplyList}
+use Rattle.journal.specs.Batch.{Messages}
+use Rattle.journal.specs.contracts.request.RequestMessages as Q
 use Rattle.update_batches.specs.Replies.{reply_of}
 use Rattle.update_batches.specs.contracts.replies.ReplyList as T
 use Rattle.update_batches.specs.contracts.replies.ReplyList.note.Key.{name as #it}
@@ -33,19 +35,19 @@ use Rattle.update_batches.specs.contracts.replies.ReplyList.note as it
 use Rattle.update_batches.proofs.replies.ReplyList.note.Statement as stated
 use Rattle.update_batches.proofs.replies.ReplyList.note.Code as code
 use denote.Ref.{Bor}
-use denote.Builtin.{u8, u64}
+use denote.Builtin.{u64}
 use denote.Exit.{yes}
 use denote.Slice.{ShrSlice, slice_val, shr_slice_vals, shr_slice_Tells}
-use denote.Triple.Walked.{stay_none_slice, Goes-none_slice}
+use denote.Triple.Walked.{stay_none_ref, stay_none_slice, Goes-none_ref, Goes-none_slice}
 use Rattle.std.proofs.Common.{◌<◌, ◌^◌, length}
 
 abbrev Arg : Type 0
-Arg = MutBor ReplyList × (Bor (List ℕ) × (Bor (List ℕ) × Unit {0}))
+Arg = MutBor ReplyList × (Bor (List ℕ) × (Bor Messages × Unit {0}))
 
 abbrev stayed : Stays (it.ended).signature.params (it.ended).kept
-stayed = (stay_ref (0 ∷ []) tt (plain (λ _. T.the_row)), (stay_none_slice (1 ∷ []) tt (plain (λ _. u64)) yes, (stay_none_slice (2 ∷ []) tt (plain (λ _. u8)) yes, tt)))
+stayed = (stay_ref (0 ∷ []) tt (plain (λ _. T.the_row)), (stay_none_slice (1 ∷ []) tt (plain (λ _. u64)) yes, (stay_none_ref (2 ∷ []) tt (plain (λ _. Q.the_row)) yes, tt)))
 
-module _ {M : Type 1} {𝓤 : Ura M} (𝓛 : Logic 𝓤) (at_mem : Memory → SProp 𝓤) (run : Routine → Fun 𝓤) (κ κ' κ'' : Lft) (q q' q'' : Share) (b o : ℕ) (γ : GName) (h : ReplyList) (k s : Bor (List ℕ)) where
+module _ {M : Type 1} {𝓤 : Ura M} (𝓛 : Logic 𝓤) (at_mem : Memory → SProp 𝓤) (run : Routine → Fun 𝓤) (κ κ' κ'' : Lft) (q q' q'' : Share) (b o : ℕ) (γ : GName) (h : ReplyList) (k : Bor (List ℕ)) (s : Bor Messages) where
   open 𝓛 use {H, A}
 
   abbrev x : Arg
@@ -55,10 +57,10 @@ module _ {M : Type 1} {𝓤 : Ura M} (𝓛 : Logic 𝓤) (at_mem : Memory → SP
   h' = record { marker = h.marker; replies = h.replies ++ reply_of k.now s.now ∷ [] }
 
   abbrev at : List Val × (List Val × (List Val × Unit {0}))
-  at = (vptr b o ∷ [], (slice_val k.ref_ptr (length k.now) ∷ [], (slice_val s.ref_ptr (length s.now) ∷ [], tt)))
+  at = (vptr b o ∷ [], (slice_val k.ref_ptr (length k.now) ∷ [], (shr_vals s, tt)))
 
   abbrev rest : base.Fml.Fml
-  rest = owns (ShrSlice (named 1) κ' u64 ∷ ShrSlice (named 2) κ'' u8 ∷ []) x.1 at.1
+  rest = owns (ShrSlice (named 1) κ' u64 ∷ ShrRef (named 2) κ'' Q.the_row ∷ []) x.1 at.1
 
   abbrev Post : Val → SProp 𝓤
   Post = (walk_of 𝓛 it.ended stayed (it.clauses 𝓛 at_mem run)).post (((κ, (κ', (κ'', tt))), (q, (q', (q'', tt))), tt, x, at), tt)
@@ -71,11 +73,11 @@ module _ {M : Type 1} {𝓤 : Ura M} (𝓛 : Logic 𝓤) (at_mem : Memory → SP
       feq_i ! (List Val) (vunit ∷ []) (vunit ∷ []) refl $ move ! (1 ∷ 0 ∷ []) $ done !
 
   module _ (C : Calls 𝓤 H) (Λ : Loops 𝓤 H) where
-    walk : length k.now < 2 ^ 64 → length s.now < 2 ^ 64 → ent 𝓤 (on_entry 𝓛 it.signature (κ, (κ', (κ'', tt))) (q, (q', (q'', tt))) x at) (WpFn 𝓤 H C Λ code.function (vptr b o ∷ slice_val k.ref_ptr (length k.now) ∷ slice_val s.ref_ptr (length s.now) ∷ []) Post)
-    walk fk fs =
-        qed 𝓛 ((‵ (flft κ q) ⊛ (‵ (flft κ' q') ⊛ (‵ (flft κ'' q'') ⊛ ‵ ftrue))) ∷ ‵ (owns (MutRef (named 0) κ T.the_row ∷ ShrSlice (named 1) κ' u64 ∷ ShrSlice (named 2) κ'' u8 ∷ []) x at) ∷ []) ∵ split ! $ move ! (2 ∷ []) $ fsplit ! $ fsplit3 ! $ drop ! $ move ! (0 ∷ 1 ∷ 3 ∷ []) $
-        enter ! C Λ code.function (vptr b o ∷ slice_val k.ref_ptr (length k.now) ∷ slice_val s.ref_ptr (length s.now) ∷ []) _ $
-        alloc_all ! (λ l. pass_all ! refl ((tt, tt), ((tt, (tt, (record { fits = fk }, tt))), ((tt, (tt, (record { fits = fs }, tt))), tt))) $
+    walk : length k.now < 2 ^ 64 → ent 𝓤 (on_entry 𝓛 it.signature (κ, (κ', (κ'', tt))) (q, (q', (q'', tt))) x at) (WpFn 𝓤 H C Λ code.function (vptr b o ∷ slice_val k.ref_ptr (length k.now) ∷ vptr s.ref_ptr.0 s.ref_ptr.1 ∷ []) Post)
+    walk fk =
+        qed 𝓛 ((‵ (flft κ q) ⊛ (‵ (flft κ' q') ⊛ (‵ (flft κ'' q'') ⊛ ‵ ftrue))) ∷ ‵ (owns (MutRef (named 0) κ T.the_row ∷ ShrSlice (named 1) κ' u64 ∷ ShrRef (named 2) κ'' Q.the_row ∷ []) x at) ∷ []) ∵ split ! $ move ! (2 ∷ []) $ fsplit ! $ fsplit3 ! $ drop ! $ move ! (0 ∷ 1 ∷ 3 ∷ []) $
+        enter ! C Λ code.function (vptr b o ∷ slice_val k.ref_ptr (length k.now) ∷ vptr s.ref_ptr.0 s.ref_ptr.1 ∷ []) _ $
+        alloc_all ! (λ l. pass_all ! refl ((tt, tt), ((tt, (tt, (record { fits = fk }, tt))), ((tt, tt), tt))) $
         move ! (0 ∷ 1 ∷ 2 ∷ []) $ opens ! tt T.the_row {h = h} b o (λ vs.
         sets ! (of_opd ! (unit_lit !)) refl (tt, tt) $
         move ! (1 ∷ []) $ use1 𝓛 (‵ ((T.the_row).own_val h' vs)) (id⊢ 𝓤 _) $ move ! (1 ∷ 0 ∷ []) $ closes ! tt T.the_row h' vs b o $
@@ -86,11 +88,11 @@ module _ {M : Type 1} {𝓤 : Ura M} (𝓛 : Logic 𝓤) (at_mem : Memory → SP
   open 𝓛 use {H}
 
   walks : (C : Calls 𝓤 H) (Λ : Loops 𝓤 H) → Walks 𝓛 it.ended stayed (WpFn 𝓤 H C Λ code.function) (it.clauses 𝓛 at_mem run)
-  walks C Λ = walked 𝓛 it.ended stayed (it.clauses 𝓛 at_mem run) (WpFn 𝓤 H C Λ code.function) (λ κs. (mut_vals, (shr_slice_vals, (shr_slice_vals, tt)))) (λ κs. (mut_Tells (named 0) κs.0 T.the_row, (shr_slice_Tells (named 1) κs.1.0 u64, (shr_slice_Tells (named 2) κs.1.1.0 u8, tt))))
-      (λ κs qs bounds a _ are. via 𝓤 _ (fst∗ 𝓤 _ (emp 𝓤)) (walk 𝓛 at_mem run κs.0 κs.1.0 κs.1.1.0 qs.0 qs.1.0 qs.1.1.0 a.0.ref_ptr.0 a.0.ref_ptr.1 a.0.ghost_name a.0.now a.1.0 a.1.1.0 C Λ are.1.0.0.1.0 are.1.1.0.0.1.0))
+  walks C Λ = walked 𝓛 it.ended stayed (it.clauses 𝓛 at_mem run) (WpFn 𝓤 H C Λ code.function) (λ κs. (mut_vals, (shr_slice_vals, (shr_vals, tt)))) (λ κs. (mut_Tells (named 0) κs.0 T.the_row, (shr_slice_Tells (named 1) κs.1.0 u64, (shr_Tells (named 2) κs.1.1.0 Q.the_row, tt))))
+      (λ κs qs bounds a _ are. via 𝓤 _ (fst∗ 𝓤 _ (emp 𝓤)) (walk 𝓛 at_mem run κs.0 κs.1.0 κs.1.1.0 qs.0 qs.1.0 qs.1.1.0 a.0.ref_ptr.0 a.0.ref_ptr.1 a.0.ghost_name a.0.now a.1.0 a.1.1.0 C Λ are.1.0.0.1.0))
 
   goes : AllGo 𝓛 3 (it.signature).params (it.ended).kept stayed
-  goes = (Goes-ref 𝓛 3 0 tt (plain (λ _. T.the_row)), (Goes-none_slice 𝓛 3 (1 ∷ []) tt (plain (λ _. u64)) yes, (Goes-none_slice 𝓛 3 (2 ∷ []) tt (plain (λ _. u8)) yes, tt)))
+  goes = (Goes-ref 𝓛 3 0 tt (plain (λ _. T.the_row)), (Goes-none_slice 𝓛 3 (1 ∷ []) tt (plain (λ _. u64)) yes, (Goes-none_ref 𝓛 3 (2 ∷ []) tt (plain (λ _. Q.the_row)) yes, tt)))
 
 meets : {M : Type 1} {𝓤 : Ura M} (𝓛 : Logic 𝓤) → (at_mem : Memory → SProp 𝓤) (run : Routine → Fun 𝓤) (𝓣 : Tables 𝓤 𝓛.H)
     → Meets 𝓛 it.signature (WpFn 𝓤 𝓛.H 𝓣.C 𝓣.Λ code.function) (it.spec 𝓛 at_mem run)

@@ -8,7 +8,6 @@ use Rattle.update_batches.specs.declared.queued_update.QueuedUpdate.{QueuedUpdat
 use Rattle.update_batches.specs.declared.verdict.Verdict.{Verdict}
 use Rattle.update_batches.specs.Batch.{versions_in, IsBatch}
 use Rattle.update_batches.specs.Done.{AreDone, replies_to}
-use Rattle.update_batches.specs.Turned.{IsTold}
 use Rattle.update_batches.proofs.BatchLemmas.{judged_made}
 use Rattle.update_batches.proofs.DoneLemmas.{published_done}
 use Rattle.update_batches.proofs.ToldLemmas.{made_still, room_left, told_published, take_some, taken_many, told_between, told_tended}
