@@ -151,16 +151,22 @@ impl<'a, C: Clock> ControlJob<'a, C> {
         self.go_on(rt, handler, log, now);
         if is_over {
             self.give_up(rt, handler, now);
+            self.write_replies(now);
+            return Some(JobEnd::Done(self.obeyed));
         }
+        self.write_replies(now);
+        thread::sleep(self.clock, Duration::from_millis(LOOK));
+        None
+    }
+
+    /// Writes what the clients take of their replies. Those with which nothing is left to do are dropped.
+    fn write_replies(&mut self, now: u64)
+        ensures number { self.new.number ≡ self.old.number }
+    {
         for client in &mut self.clients {
             client.write(now);
         }
         self.clients.retain(|client| !client.is_gone());
-        if is_over {
-            return Some(JobEnd::Done(self.obeyed));
-        }
-        thread::sleep(self.clock, Duration::from_millis(LOOK));
-        None
     }
 
     /// Takes the clients that have come, as many as there is room for.
@@ -183,16 +189,24 @@ impl<'a, C: Clock> ControlJob<'a, C> {
         ensures number { self.new.number ≡ self.old.number }
     {
         for at in 0..self.clients.len() {
-            let obeyed = match self.heard_from(at, now) {
-                Heard::Nothing => continue,
-                Heard::Unknown => {
-                    replied(failed(self.alloc, "no command: reload, status, stats or stop"))
-                }
-                Heard::Command(command) => self.obey(rt, handler, command),
-            };
-            self.obeyed = self.obeyed.saturating_add(1);
-            self.settle(at, obeyed, now);
+            self.hear_at(rt, handler, at, now);
         }
+    }
+
+    /// Reads what the client at a place has sent, and obeys its command once that is whole.
+    fn hear_at<R: Wait, A: LocalUpdates>(&mut self, rt: &R, handler: &mut A, at: usize, now: u64)
+        ensures grows { Grows (A.seen handler.new) (A.seen handler.old) }
+        ensures number { self.new.number ≡ self.old.number }
+    {
+        let obeyed = match self.heard_from(at, now) {
+            Heard::Nothing => return,
+            Heard::Unknown => {
+                replied(failed(self.alloc, "no command: reload, status, stats or stop"))
+            }
+            Heard::Command(command) => self.obey(rt, handler, command),
+        };
+        self.obeyed = self.obeyed.saturating_add(1);
+        self.settle(at, obeyed, now);
     }
 
     /// What the client at a place has sent.
