@@ -6,7 +6,7 @@ use Rattle.std.proofs.lemmas.List.{take-append-drop, drop-append-le}
 use Rattle.std.proofs.lemmas.List.Elements.{All-nil, All-cons, All-head, All-tail, All-drop}
 use Rattle.std.proofs.lemmas.List.Concat.{flat_map-append}
 use Rattle.std.proofs.Math.Seq.{drop-nil, drop-append-add}
-use Rattle.journal.specs.Batch.{Messages, counted, batch_of, IsRequest}
+use Rattle.journal.specs.Batch.{Messages, request_octets, batch_of, IsRequest}
 use Rattle.journal.specs.Frame.{Fit}
 use Rattle.journal.specs.Recovered.{updates_in}
 use Rattle.store_recovery.specs.Behind.{AreBehind, batches_behind}
@@ -50,7 +50,7 @@ fit_from number low (body ∷ bodies) few fit = (fit.0, omega (arith, few, fit.1
 fewer : (k : ℕ) (batch : List Messages) → length (batch_of (drop k batch)) ≤ length (batch_of batch)
 fewer k batch =
     let parts : batch_of batch ≡ batch_of (take k batch) ++ batch_of (drop k batch) =
-    ap batch_of (sym (take-append-drop k batch)) ∙ flat_map-append counted (take k batch) (drop k batch) in
+    ap batch_of (sym (take-append-drop k batch)) ∙ flat_map-append request_octets (take k batch) (drop k batch) in
     omega (arith, ap length parts, length-append (batch_of (take k batch)) (batch_of (drop k batch)))
 
 -- so they fit

@@ -1,6 +1,6 @@
 -- How messages are read as updates.
 use Rattle.journal.specs.Batch.{Messages}
-use Rattle.std.proofs.Common.{◌≡◌, ℕ, zero, suc, List, [], ◌∷◌, ◌++◌, length, take, refl, sym, ap, ◌∙◌}
+use Rattle.std.proofs.Common.{◌≡◌, ℕ, zero, suc, List, [], ◌∷◌, ◌++◌, length, take, refl, ap}
 use Rattle.dns_message.specs.declared.update.Update.{Update}
 use Rattle.update_messages.specs.Joined.{IsRead}
 use Rattle.update_messages.proofs.JoinedLemmas.{read_once as request_once}

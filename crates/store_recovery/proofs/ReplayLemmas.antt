@@ -118,7 +118,7 @@ not_taken_at zone messages place d kept fault is within why = record {
   before = is.updates;
   read = is.read;
   taken = is.taken;
-  message = (messages_now (get_or messages place d));
+  request = (messages_now (get_or messages place d));
   is_present = slice_get-get_or (now_of messages) place (messages_now d) (omega (arith, within, lent_long messages)) ∙ ap Some (lent_at messages place d within);
   why = subst (λ (z : List Record). IsUpdateFault z (messages_now (get_or messages place d)) fault) (replayed_zone zone (take place (now_of messages)) kept is) why;
 }
@@ -166,9 +166,9 @@ pub all_taken : (zone : List Record) (messages : List Messages) (updates : List 
     → AreRead messages updates → EachChanges zone updates → IsNotTaken zone messages place fault → ⊥
 all_taken zone messages updates place fault read taken other =
     let same : other.before ≡ take place updates = read_once (take place messages) other.before (take place updates) other.read (read_take place messages updates read) in
-    let here : TakenAt (replay zone other.before) other.message =
-    subst (λ (before : List Update). TakenAt (replay zone before) other.message) (sym same) (taken_at zone messages updates place other.message read taken other.is_present) in
-    not_faulty (replay zone other.before) other.message fault here other.why
+    let here : TakenAt (replay zone other.before) other.request =
+    subst (λ (before : List Update). TakenAt (replay zone before) other.request) (sym same) (taken_at zone messages updates place other.request read taken other.is_present) in
+    not_faulty (replay zone other.before) other.request fault here other.why
 
 -- what is told of a version that is made, or isn't
 pub made_told : {X Y : Type 0} (made : Result X Y) (next : X) (P : X → Type 0) (Q : Y → Type 0) → made ≡ Ok next → MatchResult made P Q → P next

@@ -1,6 +1,6 @@
 -- Definitions that only private contracts cite.
 use Rattle.std.specs.Prelude.{◌≡◌, ℕ, Bool, true, false, List, Option, None, Some, if◌then◌else◌}
-use Rattle.dns_name.specs.Name.{Name, is_same}
+use Rattle.dns_name.specs.Name.{is_same}
 use Rattle.dns_rdata.specs.Record.{Record}
 use Rattle.dns_rdata.specs.declared.numbers.Serial.{Serial}
 use Rattle.dns_rdata.specs.SerialOrder.{serial_less}
