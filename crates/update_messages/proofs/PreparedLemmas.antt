@@ -1,6 +1,7 @@
 -- The messages of an update are those of a request, and what is prepared of it.
-use Rattle.std.proofs.Common.{◌≡◌, ℕ, ◌<◌, ◌≤◌, List, [], ◌∷◌, length, map, get_or, sym, ap, subst, ◌∙◌, arith}
+use Rattle.std.proofs.Common.{◌≡◌, ℕ, ◌<◌, ◌≤◌, false, List, [], ◌∷◌, length, map, get_or, sym, ap, subst, ◌∙◌, arith}
 use Rattle.std.specs.Prelude.{All}
+use Rattle.std.specs.Cmp.Lexicographic.{pointwise}
 use Rattle.std.proofs.lemmas.List.Elements.{All-cons, All-map, All-same}
 use Rattle.dns_rdata.specs.Raw.{RawRecord}
 use Rattle.dns_rdata.specs.Record.{Record}
@@ -8,8 +9,9 @@ use Rattle.dns_message.specs.declared.update.Update.{Update}
 use Rattle.dns_message.specs.declared.update.ZoneEntry.{ZoneEntry}
 use Rattle.journal.specs.Batch.{Messages, request_octets, IsRequest}
 use Rattle.zone_tree.specs.Zone.{IsZone, apex_of}
+use Rattle.zone_tree.specs.Change.{is_same_record}
 use Rattle.zone_tree.specs.Version.{zone_serial}
-use Rattle.zone_change.specs.Change.{change_to}
+use Rattle.zone_change.specs.Change.{aimed, change_to}
 use Rattle.zone_change.specs.Messages.{part_octets, AreMessages}
 use Rattle.zone_change.specs.Summary.{deleted_by, added_by, serial_after}
 use Rattle.zone_change.proofs.MessagesLemmas.{part_long}
@@ -44,13 +46,14 @@ are_request update messages are = record {
 }
 
 -- an update with its messages
-pub prepared : (served next : List Record) (change : PreparedChange) → IsZone served → IsZone next → apex_of served ≡ apex_of next → change.update ≡ change_to served next
+pub prepared : (served next : List Record) (change : PreparedChange) → IsZone served → IsZone next → apex_of served ≡ apex_of next → pointwise is_same_record served (aimed served next) ≡ false → change.update ≡ change_to served next
     → AreMessages change.update change.messages → length (request_octets change.messages) ≤ 12582912 → change.summary.from.0 ≡ zone_serial served
     → change.summary.to.0 ≡ serial_after served next → change.summary.given.0 ≡ zone_serial next → change.summary.deleted ≡ deleted_by change.update
     → change.summary.added ≡ added_by change.update → IsPrepared served next change
-prepared served next change h k apex is messages short from to given deleted added =
+prepared served next change h k apex differ is messages short from to given deleted added =
     let are : AreMessages (change_to served next) change.messages = subst (λ (u : Update). AreMessages u change.messages) is messages in
     record {
+      differ = differ;
       update = is;
       messages = are;
       short = short;

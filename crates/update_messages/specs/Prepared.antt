@@ -1,10 +1,12 @@
 -- The update that takes a zone to another one, as it is stored and submitted (RFC 2136; own).
 use Rattle.std.specs.Prelude.{◌≡◌, ◌≤◌, ◌<◌, ⊤, List, false, length}
+use Rattle.std.specs.Cmp.Lexicographic.{pointwise}
 use Rattle.dns_name.specs.Name.{is_same}
 use Rattle.dns_rdata.specs.Record.{Record}
 use Rattle.dns_message.specs.declared.update.Update.{Update}
 use Rattle.journal.specs.Batch.{Messages, request_octets}
 use Rattle.zone_tree.specs.Zone.{apex_of}
+use Rattle.zone_tree.specs.Change.{is_same_record}
 use Rattle.zone_tree.specs.Version.{zone_serial}
 use Rattle.zone_change.specs.declared.fault.ChangeFault.TheVariants.{OtherApex, NoRoom, TooLong, NoMemory as no_memory}
 use Rattle.zone_change.specs.Change.{aimed, change_to, HasRoom}
@@ -17,9 +19,10 @@ use Rattle.update_messages.specs.declared.prepared.Prepared.{Prepared}
 use Rattle.update_messages.specs.declared.prepared.Prepared.TheVariants.{Unchanged, Change}
 use Rattle.update_messages.specs.declared.prepared.PreparedChange.{PreparedChange}
 
--- the update that takes a zone to another one, with its messages, which have room in a frame and are read as that update; and what it changes, in
--- numbers
+-- the update that takes a zone to another one, from which it differs, with its messages, which have room in a frame and are read as that update; and
+-- what it changes, in numbers
 pub record IsPrepared (served next : List Record) (prepared : PreparedChange) : Type 0 where
+  pub differ : pointwise is_same_record served (aimed served next) ≡ false
   pub update : prepared.update ≡ change_to served next
   pub messages : AreMessages (change_to served next) prepared.messages
   pub short : length (request_octets prepared.messages) ≤ 12582912
