@@ -1,5 +1,5 @@
 -- What a reader has seen behind a request, and when no load is left for it.
-use Rattle.std.proofs.Common.{◌≡◌, ◌↔◌, refl, ℕ, ◌+◌, ◌-◌, List, [], ⊎_elim, sym, ap, ◌∙◌, subst, arith}
+use Rattle.std.proofs.Common.{◌≡◌, ◌↔◌, refl, ℕ, ◌+◌, List, [], ⊎_elim, sym, ap, ◌∙◌, subst, arith}
 use Rattle.dns_rdata.specs.Record.{Record}
 use Rattle.dns_message.specs.Request.{reads}
 use Rattle.dns_message.specs.declared.query.Query.{Query as QueryAsked}

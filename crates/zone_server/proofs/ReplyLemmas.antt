@@ -1,5 +1,5 @@
 -- What is replied, by what is told of a request.
-use Rattle.std.proofs.Common.{◌≡◌, ◌≢◌, ◌≤◌, ◌==◌, refl, ℕ, Bool, true, false, not, ◌&&◌, ◌||◌, nat_lt, List, [], ◌∷◌, length, take, Option, None, Some, option_and_then, ◌⊎◌, inl, inr, ⊎_elim, sym, ap, ◌∙◌, subst, unwrap_or, if◌then◌else◌, Ok, Err, lit≤, arith, ◌+◌, ◌++◌, length-append}
+use Rattle.std.proofs.Common.{◌≡◌, ◌≢◌, ◌≤◌, ◌==◌, refl, ℕ, Bool, true, false, not, ◌&&◌, ◌||◌, nat_lt, List, [], ◌∷◌, length, take, Option, None, Some, option_and_then, inl, inr, ⊎_elim, sym, ap, ◌∙◌, subst, unwrap_or, if◌then◌else◌, Ok, Err, lit≤, arith, ◌+◌, ◌++◌, length-append}
 use Rattle.std.proofs.lemmas.Bool.{eqb-true}
 use Rattle.std.proofs.lemmas.Bool.Decides.{nat_tests}
 use Rattle.std.specs.Option.{option_to_list, option_or, is_some}

@@ -2,7 +2,7 @@
 use Rattle.std.proofs.Common.{◌∙◌, sym, subst}
 use Rattle.zone_tree.specs.Version.{Version}
 use Rattle.update_batches.specs.Engine.{IsLast}
-use Rattle.zone_server.proofs.KnownLemmas.{loads}
+use Rattle.zone_server.proofs.KnownLemmas.{loads, loaded_latest}
 use Rattle.zone_server.proofs.NowLemmas.{load_grows, same_grows}
 use Rattle.zone_server.proofs.datagram_handler.DatagramHandlerLocalUpdates.last_version.Goals as goal
 
@@ -17,4 +17,5 @@ returns-clause-grows g c =
 pub returns-clause-last : goal.returns-clause-last
 returns-clause-last g c =
     let strong = c.in_ok-strong.strong in
-    subst (λ (version : Version). IsLast _ version) (sym (c.share.ensures ∙ c.get.ensures)) (loads g.Z.FirstZone.zone _ _ strong c.in_ok-strong.ensures.loaded).last
+    let latest = loaded_latest g.Z.FirstZone.zone _ _ strong c.in_ok-strong.ensures.loaded in
+    subst (λ (version : Version). IsLast c.load.new.reader.seen version) (sym (c.share.ensures ∙ c.get.ensures)) (latest.before, latest.ends)

@@ -2,5 +2,5 @@
 use Rattle.zone_server.proofs.NowLemmas.{met_grows}
 use Rattle.zone_server.proofs.datagram_handler.DatagramHandlerLocalUpdates.result_at.Goals as goal
 
-pub returns-clause-grows : goal.returns-clause-grows
-returns-clause-grows g c = met_grows g.Z.FirstZone.zone c.fetch.ensures.met.0 _ _ c.fetch.ensures.met.1
+pub returns : goal.returns
+returns g c = record { grows = met_grows g.Z.FirstZone.zone c.fetch-fetched.ensures.met.0 _ _ c.fetch-fetched.ensures.met.1 }
