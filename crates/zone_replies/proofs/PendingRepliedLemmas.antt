@@ -13,6 +13,7 @@ use Rattle.tcp_connections.specs.Asked.{EachGrows}
 use Rattle.tcp_connections.specs.Kept.{messages_of}
 use Rattle.tcp_connections.specs.declared.handler.Reply.{Reply}
 use Rattle.tcp_connections.specs.declared.handler.Reply.TheVariants.{Later}
+use Rattle.update_batches.proofs.ReadLemmas.{read_is}
 use Rattle.zone_server.specs.declared.update_result.UpdateResult.{UpdateResult}
 use Rattle.zone_server.specs.UpdateResult.{IsDone}
 use Rattle.zone_server.specs.Known.{learned_by}
@@ -72,7 +73,7 @@ module _ (first : List Record) (peer : Peer) (taken : List (Option PendingState)
   taken_replied all here meets reported alone may permitted written =
       let one = place_known taken before key place all here in
       let reading : reads request ≡ SaysUpdate done.asked.update =
-      read_alone request done.asked.update (subst (λ (ms : Messages). IsRead ms done.asked.update) alone done.asked.read) in
+      read_alone request done.asked.update (subst (λ (ms : Messages). IsRead ms done.asked.update) alone (read_is done.asked.messages done.asked.update done.asked.read)) in
       subst (λ (l : Learned Version). IsReplied first peer l (learned_by after) request (take len out ∷ [])) (sym one.1)
       (by_one one.0 one.2 one.3 meets reported reading (may ∙ sym permitted) written)
 

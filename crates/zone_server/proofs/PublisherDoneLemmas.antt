@@ -20,6 +20,7 @@ use Rattle.update_batches.specs.declared.update_request.UpdateRequest.{UpdateReq
 use Rattle.update_batches.specs.declared.verdict.Verdict.{Verdict}
 use Rattle.update_batches.specs.Verdict.{serials_with, told_verdict, made_verdict, failed}
 use Rattle.update_batches.specs.UpdateRequest.{serial_in}
+use Rattle.update_batches.proofs.ReadLemmas.{read_is}
 use Rattle.zone_server.specs.UpdateResult.{IsDoneBy, AreResults, queued_results}
 use Rattle.zone_server.proofs.StateLemmas.{done_grows}
 use Rattle.zone_server.proofs.JudgedLemmas.{tells_done, starved_done, made_done}
@@ -113,7 +114,7 @@ module _ (first : List Record) (published : List Version) (latest_version : Vers
       → AreReplies first published (number + 1) verdicts batch
   queued_replies verdicts [] are = tt
   queued_replies verdicts (one ∷ batch) are = (
-    reply_told first published number one.request (first_verdict verdicts) (queued_done one (first_verdict verdicts) are.0) one.request.read one.may,
+    reply_told first published number one.request (first_verdict verdicts) (queued_done one (first_verdict verdicts) are.0) (read_is one.request.messages one.request.update one.request.read) one.may,
     queued_replies (drop 1 verdicts) batch are.1,
   )
 
