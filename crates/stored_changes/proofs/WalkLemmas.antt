@@ -106,7 +106,7 @@ not_taken_at zone messages place d last reported fault is within why = record {
   before = is.updates;
   read = is.read;
   taken = is.taken;
-  message = messages_now (get_or messages place d);
+  request = messages_now (get_or messages place d);
   is_present = slice_get-get_or (now_of messages) place (messages_now d) (omega (arith, within, lent_long messages)) ∙ ap Some (lent_at messages place d within);
   why = subst (λ (z : List Record). IsUpdateFault z (messages_now (get_or messages place d)) fault) is.here why;
 }
