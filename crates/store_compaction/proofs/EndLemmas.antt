@@ -54,7 +54,7 @@ pub begun_end : (text : List ℕ) (head : Head) (number keep : ℕ) (random : Li
 begun_end text head number keep random origin version begun = record { store = begun.store; within = omega arith; oldest = refl; rest = refl; made = tt }
 
 -- a store with one batch more
-store_more : (text : List ℕ) (head : Head) (batches : List (List Messages)) (zone : List Record) (updates more : List Update) (batch : List Messages) → IsStore text head batches zone updates
+pub store_more : (text : List ℕ) (head : Head) (batches : List (List Messages)) (zone : List Record) (updates more : List Update) (batch : List Messages) → IsStore text head batches zone updates
     → All IsRequest batch → length (batch_of batch) < body_limit → length batches < 2 ^ 64 → AreRead batch more → EachChanges (replay zone updates) more
     → IsStore text head (batches ++ batch ∷ []) zone (updates ++ more)
 store_more text head batches zone updates more batch store short few counted read taken = record {

@@ -74,7 +74,7 @@ module _ {F : Type 0} where
   more_none text batches zone updates k (one ∷ octets) after none at = absurd (omega (arith, none))
 
   -- one batch more is stored
-  pub more_some : (text : List ℕ) (batches : List (List Messages)) (zone : List Record) (updates : List Update) (k : ℕ) (one : List ℕ) (others : List Messages)
+  pub more_some : (text : List ℕ) (batches : List (List Messages)) (zone : List Record) (updates : List Update) (k : ℕ) (one : Messages) (others : List Messages)
       (before after : CompactedState F) (versions : List Version) (steps : List VersionUpdate)
       → IsAt text batches zone updates k before → Holds written synced (head_of before.writer) (log_of before.writer) (map batch_of batches)
       → AreSteps steps versions (one ∷ others) → AreMadeBy (last_in (trail_of before.writer)) versions (one ∷ others)

@@ -29,7 +29,7 @@ made_leads first (version ∷ versions) (octets ∷ messages) are =
     let rest = made_leads version versions messages are.1 in
     record {
       updates = update ∷ rest.updates;
-      read = (record { is = are.0.1 }, rest.read);
+      read = (are.0.1, rest.read);
       taken = (makes.taken, λ e. makes.changed (sym gives ∙ e), subst (λ (z : List Record). EachChanges z rest.updates) (sym gives) rest.taken);
       same = rest.same ∙ ap (λ (z : List Record). replay z rest.updates) (sym gives);
     }

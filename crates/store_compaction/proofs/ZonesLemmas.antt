@@ -57,7 +57,7 @@ made_zones first (version ∷ versions) (message ∷ messages) [] made read = ab
 made_zones first (version ∷ versions) (message ∷ messages) (update ∷ updates) made read =
     let other : Update = made.0.0 in
     let makes : Makes other first version = made.0.2 in
-    let same : other ≡ update = read_one message other update (record { is = made.0.1 }) read.0 in
+    let same : other ≡ update = read_one message other update made.0.1 read.0 in
     let gives : version.zone ≡ unwrap_or (act first.zone update) first.zone =
     sym (ap (λ o. unwrap_or o first.zone) makes.zone) ∙ ap (λ (u : Update). unwrap_or (act first.zone u) first.zone) same in
     ap (λ (zones : List (List Record)). first.zone ∷ zones)

@@ -8,4 +8,4 @@ use Rattle.store_compaction.proofs.steps.batch_body.Goals as goal
 pub returns-clause-short : goal.returns-clause-short
 returns-clause-short c =
     let all : c.loop-update.body.items ≡ batch_of (updates_of c.args.updates.now) = grind (arith, common_steps) in
-    subst (λ (o : List ℕ). length o < body_limit) (sym all) c.requires
+    subst (λ (o : List ℕ). length o < body_limit) (sym all) c.requires.short
