@@ -2,7 +2,6 @@
 use Rattle.std.specs.Prelude.{◌≡◌, ◌⊎◌, ◌<◌, ◌≤◌, ◌+◌, ℕ, true, List, length, Option, None, Some}
 use Rattle.std.specs.List.{All, slice_get}
 use Rattle.dns_message.specs.Request.{is_update}
-use Rattle.dns_rdata.specs.Record.{Record}
 use Rattle.dns_rdata.specs.declared.numbers.Rcode.TheVariants.{ServFail}
 use Rattle.dns_message.specs.Octets.{fit}
 use Rattle.zone_tree.specs.Version.{Version}

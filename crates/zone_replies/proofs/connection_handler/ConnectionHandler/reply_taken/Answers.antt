@@ -33,8 +33,8 @@ invariant_of-self-in_default-fetched-2 g c =
     let grown = meets_grows g.Z.FirstZone.zone c.self.inside.reader c.fetch-fetched.new.reader _ c.fetch-fetched.ensures.met in
     gone_all c.self.inside.taken c.self.inside.reader c.fetch-fetched.new.reader c.self.inside.asker grown c.remove.new.self c.remove.ensures c.self.invariant
 
-pub invariant_of-self-then-eq : goal.invariant_of-self-then-eq
-invariant_of-self-then-eq g c =
+pub invariant_of-self-then-is_one : goal.invariant_of-self-then-is_one
+invariant_of-self-then-is_one g c =
     let grown = meets_grows g.Z.FirstZone.zone c.self.inside.reader c.fetch-fetched.new.reader _ c.fetch-fetched.ensures.met in
     gone_all c.self.inside.taken c.self.inside.reader c.fetch-fetched.new.reader c.self.inside.asker grown c.remove.new.self c.remove.ensures c.self.invariant
 
