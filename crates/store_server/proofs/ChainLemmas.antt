@@ -61,7 +61,7 @@ made_chain version [] [] read taken = tt
 made_chain version [] (message ∷ messages) read taken = absurd read
 made_chain version (update ∷ updates) [] read taken = absurd read
 made_chain version (update ∷ updates) (message ∷ messages) read taken =
-    ((update, read.0.is, by_makes version update taken.0 taken.1), made_chain (version_by version update) updates messages read.1 taken.2)
+    ((update, read.0, by_makes version update taken.0 taken.1), made_chain (version_by version update) updates messages read.1 taken.2)
 
 -- updates behind the first so many
 pub changes_behind : (b : ℕ) (zone : List Record) (updates : List Update) → EachChanges zone updates → EachChanges (replay zone (take b updates)) (drop b updates)

@@ -3,12 +3,16 @@ use Rattle.std.proofs.Common.{◌≡◌, ℕ, Bool, List, ◌++◌, length, map,
 use Rattle.std.proofs.lemmas.List.{length-map}
 use Rattle.journal.specs.declared.heads.Head.{Head}
 use Rattle.journal.specs.Batch.{Messages, batch_of}
-use Rattle.journal.specs.Frame.{frames_of}
+use Rattle.journal.specs.Frame.{frames_of, Fit}
 use Rattle.journal.specs.Head.{head_of, salt_of}
 use Rattle.journal.specs.Recovered.{journal_of, updates_in, IsOpened, IsRecovered}
 use Rattle.journal.proofs.FramesLemmas.{read_once}
 use Rattle.journal.proofs.RecoveredLemmas.{opened_read, same_batches}
 use Rattle.journal.specs.Log.{octets_of}
+use Rattle.store_recovery.specs.declared.start.Recovery.{Recovery}
+use Rattle.store_recovery.specs.Replay.{AreRead}
+use Rattle.store_recovery.specs.Start.{IsStarted}
+use Rattle.store_recovery.specs.Store.{IsStore}
 
 module _ (text octets : List ℕ) (head : Head) (messages : List Messages) (number end : ℕ) (torn : Bool) (found : IsRecovered text octets head messages number end torn) where
   -- a journal begins with the head and the frames of the bodies that are read
@@ -36,3 +40,16 @@ module _ (text octets : List ℕ) (head : Head) (messages : List Messages) (numb
       let bodies = read_once (salt_of head) 0 (frames_of (salt_of head) 0 (map batch_of found.batches) ++ found.rest) found.bodies found.rest again.bodies again.rest own.1 read.1 in
       let same = same_batches found.batches again.batches found.are_batches.short again.are_batches.short (sym found.are_batches.spelt ∙ (bodies.0 ∙ again.are_batches.spelt)) in
       found.all ∙ (ap updates_in same ∙ sym again.all)
+
+-- the store that a start has recovered
+pub started_store : (text octets : List ℕ) (start : Recovery) (is : IsStarted text octets start) → IsStore text start.head is.recovered.batches is.zone is.replayed.updates
+started_store text octets start is = record {
+  is_head = is.recovered.opened.begins.is_head;
+  same_text = is.recovered.same_text;
+  is_zone = is.is_zone;
+  serial = is.serial;
+  short = is.recovered.are_batches.short;
+  fit = subst (λ (bs : List (List ℕ)). Fit 0 bs) is.recovered.are_batches.spelt is.recovered.opened.read.fit;
+  read = subst (λ (ms : List Messages). AreRead ms is.replayed.updates) is.recovered.all is.replayed.read;
+  taken = is.replayed.taken;
+}

@@ -41,6 +41,7 @@ use Rattle.store_compaction.proofs.StandsLemmas.{none_some}
 use Rattle.store_server.specs.declared.resume.OpenStore.{OpenStore}
 use Rattle.store_server.specs.Started.{GoesOn, IsCreatedStore}
 use Rattle.store_server.specs.Resumed.{IsGiven, WritesOn}
+use Rattle.store_server.proofs.RecoveredLemmas.{started_store}
 use Rattle.store_server.proofs.ChainLemmas.{chain, chain_long, held_chain, Behind, behind, renumbered, made_chain, changes_behind}
 
 -- the messages of a store's updates
@@ -130,16 +131,7 @@ has_gone_on text octets start store on =
     let b : ℕ = length is.messages - length start.newest.older.items in
     let newest : Newest is.zone us store.first store.later.items b = newest_is is.zone is.messages start is.replayed store.first store.later.items on.versions in
     let read : AreRead (updates_in batches) us = subst (λ (ms : List Messages). AreRead ms us) is.recovered.all is.replayed.read in
-    let is_store : IsStore text start.head batches is.zone us = record {
-      is_head = is.recovered.opened.begins.is_head;
-      same_text = is.recovered.same_text;
-      is_zone = is.is_zone;
-      serial = is.serial;
-      short = is.recovered.are_batches.short;
-      fit = subst (λ (bs : List (List ℕ)). Fit 0 bs) bodies is.recovered.opened.read.fit;
-      read = read;
-      taken = is.replayed.taken;
-    } in
+    let is_store : IsStore text start.head batches is.zone us = started_store text octets start is in
     let rest : messages_in store ≡ drop b (updates_in batches) = on.updates ∙ ap (λ (ms : List Messages). drop b ms) is.recovered.all in
     let taken : EachChanges store.first.zone (drop b us) = subst (λ (z : List Record). EachChanges z (drop b us)) (sym newest.zone_is) (changes_behind b is.zone us is.replayed.taken) in
     let made : AreMadeBy store.first (chain store.first (drop b us)) (drop b (updates_in batches)) =
@@ -164,7 +156,7 @@ has store (inl on) = has_gone_on on.0 on.1 on.2 store on.3
 has store (inr begun) = has_begun begun.0 begun.1 begun.2 begun.3 store begun.4
 
 -- its updates fit a batch each, and are as many as its versions after the first one
-IsFit : Messages → Type 0
+abbrev IsFit : Messages → Type 0
 IsFit messages = length (request_octets messages) < body_limit
 
 requests_fit : (requests : List Messages) → length (batch_of requests) < body_limit → All IsFit requests

@@ -14,7 +14,7 @@ use Rattle.store_server.specs.declared.resume.OpenStore.{OpenStore}
 use Rattle.store_server.specs.declared.start.Served.{Served}
 use Rattle.store_server.specs.declared.start.Served.TheVariants.{Created, Same, Store, StoreThoughOther, Zone}
 use Rattle.store_server.specs.declared.start.Started.{Started}
-use Rattle.store_server.specs.Started.{GoesOn, TakesOn, IsChosen, IsServedBy, IsServedOf, IsServed, IsKept, IsOwnFault, IsNotTaken, IsRefused}
+use Rattle.store_server.specs.Started.{GoesOn, IsChosen, IsServedBy, IsServedOf, IsServed, IsTakenAs, IsOwnFault, IsNotTaken, IsRefused}
 
 -- want of memory and a device's fault refuse a start
 pub own_refused : (given : List ℕ) (origin : Name) (taken : Option Take) (result : Result Started Refusal) → IfErr result IsOwnFault → IfErr result (λ refusal. IsRefused given origin taken refusal)
@@ -57,18 +57,18 @@ module _ (given : List ℕ) (origin : Name) (taken : Option Take) (random text o
   older_served serial is (Err refusal) goes same = tt
 
   -- the text is taken
-  kept_served : (served : Served) (store : OpenStore) (zone : List Record) (is : IsChosen given origin taken text octets (IsZone zone)) → IsKept served
-      → TakesOn text octets is.start zone given random store → IsServedOf text octets given origin taken random store served
-  kept_served (Zone change) store zone is it takes = (zone, is, takes)
-  kept_served Created store zone is it takes = absurd it
-  kept_served Same store zone is it takes = absurd it
-  kept_served Store store zone is it takes = absurd it
-  kept_served (StoreThoughOther serial) store zone is it takes = absurd it
+  taken_served : (served : Served) (store : OpenStore) (zone : List Record) (is : IsChosen given origin taken text octets (IsZone zone))
+      → IsTakenAs text octets is.start zone given random store served → IsServedOf text octets given origin taken random store served
+  taken_served (Zone change) store zone is takes = (zone, is, takes)
+  taken_served Created store zone is takes = absurd takes
+  taken_served Same store zone is takes = absurd takes
+  taken_served Store store zone is takes = absurd takes
+  taken_served (StoreThoughOther serial) store zone is takes = absurd takes
 
-  pub zone_served : (zone : List Record) (is : IsChosen given origin taken text octets (IsZone zone)) (result : Result Started Refusal) → IfOk result (λ s. IsKept s.served)
-      → IfOk result (λ s. TakesOn text octets is.start zone given random s.store) → IfOk result (λ s. IsServedOf text octets given origin taken random s.store s.served)
-  zone_served zone is (Ok started) it takes = kept_served started.served started.store zone is it takes
-  zone_served zone is (Err refusal) it takes = tt
+  pub zone_served : (zone : List Record) (is : IsChosen given origin taken text octets (IsZone zone)) (result : Result Started Refusal)
+      → IfOk result (λ s. IsTakenAs text octets is.start zone given random s.store s.served) → IfOk result (λ s. IsServedOf text octets given origin taken random s.store s.served)
+  zone_served zone is (Ok started) takes = taken_served started.served started.store zone is takes
+  zone_served zone is (Err refusal) takes = tt
 
   -- or isn't taken
   pub zone_refused : (zone : List Record) (is : IsChosen given origin taken text octets (IsZone zone)) (result : Result Started Refusal)
@@ -80,7 +80,7 @@ module _ (given : List ℕ) (origin : Name) (taken : Option Take) (random text o
   zone_refused zone is (Err (NoStart fault)) none = absurd none
   zone_refused zone is (Err (Newer has serial)) none = absurd none
   zone_refused zone is (Err (NoChange fault)) none = (text, octets, zone, is, none)
-  zone_refused zone is (Err TooLarge) none = (text, octets, zone, is)
+  zone_refused zone is (Err TooLarge) none = (text, octets, zone, is, none)
   zone_refused zone is (Err (OtherApex has other)) none = absurd none
   zone_refused zone is (Err (Text fault)) none = absurd none
   zone_refused zone is (Err NoMemory) none = tt

@@ -28,8 +28,10 @@ use Rattle.store_recovery.specs.Choice.{IsChoice}
 use Rattle.store_server.specs.declared.refusal.Refusal.{Refusal}
 use Rattle.store_server.specs.declared.refusal.Refusal.TheVariants.{Held, NoJournal, NoText, NoStart, Newer, NoChange, TooLarge, OtherApex, Text, NoMemory, Device}
 use Rattle.zone_change.specs.declared.fault.ChangeFault.TheVariants.{NoRoom}
-use Rattle.zone_change.specs.Change.{HasRoom}
+use Rattle.zone_change.specs.Change.{aimed, change_to, HasRoom}
+use Rattle.update_messages.specs.Prepared.{IsTooLarge}
 use Rattle.store_server.specs.Taken.{IsTakenJournal}
+use Rattle.store_server.specs.declared.taken.TakenZone.{TakenZone}
 use Rattle.store_server.specs.declared.resume.OpenStore.{OpenStore}
 use Rattle.store_server.specs.declared.start.Served.{Served}
 use Rattle.store_server.specs.declared.start.Served.TheVariants.{Created, Same, Store, StoreThoughOther, Zone}
@@ -74,12 +76,14 @@ pub record IsCreatedWith (given : List ℕ) (origin : Name) (random : List ℕ) 
   pub is_zone : zone_of_text origin given ≡ Ok zone
   pub begun : IsCreatedStore zone number random given store
 
--- a store is changed to a zone: it goes on from its zone file and the journal that the change gives it
-pub record TakesOn (text journal : List ℕ) (start : Recovery) (zone : List Record) (given random : List ℕ) (store : OpenStore) : Type 0 where
+-- a store is changed to a zone, as is said of it: it goes on from its zone file and the journal that the change gives it; where there is room for an NS that comes first, its
+-- last version has the zone that the change is to lead to
+pub record TakesOn (text journal : List ℕ) (start : Recovery) (zone : List Record) (given random : List ℕ) (taken : TakenZone) (store : OpenStore) : Type 0 where
   pub octets : List ℕ
-  pub is_journal : IsTakenJournal journal start zone given random octets
+  pub is_journal : IsTakenJournal journal start zone given random taken octets
   pub later : Recovery
   pub goes_on : GoesOn text octets later store
+  pub leads : HasRoom start.newest.last.zone zone → later.newest.last.zone ≡ aimed start.newest.last.zone zone
 
 -- a directory's store is chosen, or to be changed to the zone file, by the zone of the store's last version
 pub record IsChosen (given : List ℕ) (origin : Name) (taken : Option Take) (text octets : List ℕ) (choice : Choice) : Type 0 where
@@ -91,7 +95,7 @@ pub record IsChosen (given : List ℕ) (origin : Name) (taken : Option Take) (te
 abbrev pub IsServedBy : List ℕ → Name → Option Take → List ℕ → OpenStore → Served → Type 0
 IsServedBy given origin taken random store Created = IsCreatedWith given origin random store
 IsServedBy given origin taken random store (Zone change) =
-    (text : List ℕ) × (octets : List ℕ) × (zone : List Record) × (is : IsChosen given origin taken text octets (IsZone zone)) × TakesOn text octets is.start zone given random store
+    (text : List ℕ) × (octets : List ℕ) × (zone : List Record) × (is : IsChosen given origin taken text octets (IsZone zone)) × TakesOn text octets is.start zone given random change store
 IsServedBy given origin taken random store Same = (text : List ℕ) × (octets : List ℕ) × (is : IsChosen given origin taken text octets IsSame) × GoesOn text octets is.start store
 IsServedBy given origin taken random store Store = (text : List ℕ) × (octets : List ℕ) × (is : IsChosen given origin taken text octets IsStore) × GoesOn text octets is.start store
 IsServedBy given origin taken random store (StoreThoughOther serial) =
@@ -101,9 +105,9 @@ abbrev pub IsServed : List ℕ → Name → Option Take → List ℕ → Started
 IsServed given origin taken random started = IsServedBy given origin taken random started.store started.served
 
 -- the store is served, changed to the zone file that the operator chose
-abbrev pub IsKept : Served → Type 0
-IsKept (Zone change) = ⊤
-IsKept _ = ⊥
+abbrev pub IsTakenAs : List ℕ → List ℕ → Recovery → List Record → List ℕ → List ℕ → OpenStore → Served → Type 0
+IsTakenAs text journal start zone given random store (Zone change) = TakesOn text journal start zone given random change store
+IsTakenAs text journal start zone given random store _ = ⊥
 
 -- the zone file is served since there was no store
 abbrev pub IsCreatedAnew : Served → Type 0
@@ -114,7 +118,7 @@ IsCreatedAnew _ = ⊥
 abbrev pub IsServedOf : List ℕ → List ℕ → List ℕ → Name → Option Take → List ℕ → OpenStore → Served → Type 0
 IsServedOf text octets given origin taken random store Created = ⊥
 IsServedOf text octets given origin taken random store (Zone change) =
-    (zone : List Record) × (is : IsChosen given origin taken text octets (IsZone zone)) × TakesOn text octets is.start zone given random store
+    (zone : List Record) × (is : IsChosen given origin taken text octets (IsZone zone)) × TakesOn text octets is.start zone given random change store
 IsServedOf text octets given origin taken random store Same = (is : IsChosen given origin taken text octets IsSame) × GoesOn text octets is.start store
 IsServedOf text octets given origin taken random store Store = (is : IsChosen given origin taken text octets IsStore) × GoesOn text octets is.start store
 IsServedOf text octets given origin taken random store (StoreThoughOther serial) = (is : IsChosen given origin taken text octets (IsOlder serial)) × GoesOn text octets is.start store
@@ -131,21 +135,26 @@ IsOwnFault NoMemory = ⊤
 IsOwnFault (Device fault) = ⊤
 IsOwnFault _ = ⊥
 
--- or no update takes the store's zone to that of the zone file, or the update has more octets than a frame takes
-abbrev pub IsNotTaken : List Record → List Record → Refusal → Type 0
-IsNotTaken last zone (NoChange fault) = (fault ≡ NoRoom) × (HasRoom last zone → ⊥)
-IsNotTaken last zone TooLarge = ⊤
-IsNotTaken last zone refusal = IsOwnFault refusal
-
 -- or a zone file and a journal from which no store can be recovered
 abbrev pub IsNoStore : List ℕ → List ℕ → Refusal → Type 0
 IsNoStore text octets (NoStart fault) = IsStartFault text octets fault
 IsNoStore text octets refusal = IsOwnFault refusal
 
+-- or no update takes the store's zone to that of the zone file: no NS can come before the others go (RFC 2136, 3.4.2.4); or it has more octets than have room in a frame
+abbrev pub IsNotTaken : List Record → List Record → Refusal → Type 0
+IsNotTaken last zone (NoChange fault) = (fault ≡ NoRoom) × (HasRoom last zone → ⊥)
+IsNotTaken last zone TooLarge = IsTooLarge (change_to last zone)
+IsNotTaken last zone refusal = IsOwnFault refusal
+
 -- or a zone file that is not a valid zone
 abbrev pub IsNoText : List ℕ → Name → Refusal → Type 0
 IsNoText given origin (Text fault) = zone_of_text origin given ≡ Err fault
 IsNoText given origin refusal = IsOwnFault refusal
+
+-- a store isn't changed to the zone of the zone file, which is chosen
+abbrev pub IsRefusedZone : List ℕ → Name → Option Take → Refusal → Type 0
+IsRefusedZone given origin taken refusal = (text : List ℕ) × (octets : List ℕ) × (zone : List Record) × (is : IsChosen given origin taken text octets (IsZone zone))
+    × IsNotTaken is.start.newest.last.zone zone refusal
 
 -- the reasons why nothing is served
 abbrev pub IsRefused : List ℕ → Name → Option Take → Refusal → Type 0
@@ -155,9 +164,8 @@ IsRefused given origin taken (NoText number) = ⊤
 IsRefused given origin taken (NoStart fault) = (text : List ℕ) × (octets : List ℕ) × IsStartFault text octets fault
 IsRefused given origin taken (Newer has serial) =
     (text : List ℕ) × (octets : List ℕ) × (is : IsChosen given origin taken text octets (RefuseNewer serial)) × (has.0 ≡ zone_serial is.start.newest.last.zone)
-IsRefused given origin taken (NoChange fault) =
-    (text : List ℕ) × (octets : List ℕ) × (zone : List Record) × (is : IsChosen given origin taken text octets (IsZone zone)) × IsNotTaken is.start.newest.last.zone zone (NoChange fault)
-IsRefused given origin taken TooLarge = (text : List ℕ) × (octets : List ℕ) × (zone : List Record) × IsChosen given origin taken text octets (IsZone zone)
+IsRefused given origin taken (NoChange fault) = IsRefusedZone given origin taken (NoChange fault)
+IsRefused given origin taken TooLarge = IsRefusedZone given origin taken TooLarge
 IsRefused given origin taken (OtherApex has other) =
     (text : List ℕ) × (octets : List ℕ) × (is : IsChosen given origin taken text octets (RefuseOtherApex other)) × (has ≡ apex_of is.start.newest.last.zone)
 IsRefused given origin taken (Text fault) = zone_of_text origin given ≡ Err fault

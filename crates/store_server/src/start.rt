@@ -1,10 +1,13 @@
 //! Starting from a directory (own).
-ghost use Rattle.std.specs.Prelude.{◌≡◌, ◌≢◌, ◌≤◌, ℕ, [], length, drop, IfOk, IfErr, MatchOption};
+ghost use Rattle.std.specs.Prelude.{◌≡◌, ◌≢◌, ◌≤◌, ℕ, true, [], length, drop, IfOk, IfErr, MatchOption};
+ghost use Rattle.dns_name.specs.Name.{is_same};
+ghost use Rattle.zone_tree.specs.Zone.{apex_of};
 ghost use Rattle.store_files.specs.File.{written};
 ghost use Rattle.store_recovery.specs.Start.{IsStarted};
 ghost use Rattle.store_recovery.specs.Choice.{IsChoice};
-ghost use Rattle.store_server.specs.Started.{AreLastUpdates, GoesOn, IsOfFolder, IsOwnFault, IsNoText, IsKept, IsNotTaken, IsServed, IsServedOf, IsRefused, TakesOn};
+ghost use Rattle.store_server.specs.Started.{AreLastUpdates, GoesOn, IsOfFolder, IsOwnFault, IsNoText, IsNotTaken, IsServed, IsServedOf, IsRefused, IsTakenAs};
 ghost use Rattle.store_files.specs.Store.{IsAsNoted};
+ghost use Rattle.store_server.specs.Private.{IsNotAgain, of_again};
 
 use crate::create::create_first;
 use crate::refusal::Refusal;
@@ -20,7 +23,8 @@ use std::fs::{File, Files};
 use store_files::{
     OpenedFolder, Pair, StoreLock, drop_others, keep_torn, open_store, replace_journal,
 };
-use store_recovery::{Choice, Ending, Recovery, Take, choose};
+use store_recovery::{Choice, Ending, Recovery, StartFault, Take, choose};
+use zone_change::ChangeFault;
 use zone_tree::{Zone, ZoneRead};
 
 /// The operator's zone file and options for a store.
@@ -196,7 +200,7 @@ fn go_on<R: Files<File = File> + Alloc + Clone + Drop>(
 }
 
 /// Changes the store to the zone of the zone file that the operator chose: its journal is replaced by one that has the same batches, the change after them, and a head by which
-/// the store was created from that zone file. A crash leaves the store as it was or changed.
+/// the store was created from that zone file. It is replaced only once a store is recovered from that journal. A crash leaves the store as it was or changed.
 fn take_text<R: Files<File = File> + Alloc + Clone + Drop>(
     rt: &R,
     alloc: Global,
@@ -209,25 +213,27 @@ fn take_text<R: Files<File = File> + Alloc + Clone + Drop>(
     zone: &Zone,
 ) -> Result<Started, Refusal>
     requires started { IsStarted pair.text.items pair.journal.items start.now }
-    ensures served { IfOk result (λ started. IsKept started.served) }
-    ensures taken { IfOk result (λ started. TakesOn pair.text.items pair.journal.items start.now zone.now given.entry.text.now random started.store) }
+    requires apex { is_same (apex_of zone.now) (apex_of start.now.newest.last.zone) ≡ true }
+    ensures served { IfOk result (λ started. IsTakenAs pair.text.items pair.journal.items start.now zone.now given.entry.text.now random started.store started.served) }
     ensures refused { IfErr result (λ refusal. IsNotTaken start.now.newest.last.zone zone.now refusal) }
 {
-    let torn = keep_end(rt, alloc, dir, &pair.journal, start.ending)?;
+    // From here on it is known that the records of both are a zone.
+    let (_soa, _soa_of_store) = (zone.soa(), start.newest.last.zone().soa());
     let (journal, taken) = taken_journal(alloc, &pair.journal, start, given.text, random, zone)?;
+    let (later, updates) = start_again(alloc, &pair.text, &journal)?;
+    let torn = keep_end(rt, alloc, dir, &pair.journal, start.ending)?;
     let disk = replace_journal(rt, alloc, dir, &journal)?;
     let Pair {
         text,
         journal: _,
         disk: _,
     } = pair;
-    let (start, updates) = start_with_updates(alloc, &text, &journal)?;
     let pair = Pair {
         text,
         journal,
         disk,
     };
-    let store = resume_pair(pair, start, updates)?;
+    let store = resume_pair(pair, later, updates)?;
     drop_others(rt, dir, store.head.number)?;
     Ok(Started {
         lock,
@@ -235,6 +241,33 @@ fn take_text<R: Files<File = File> + Alloc + Clone + Drop>(
         served: Served::Zone(taken),
         torn,
     })
+}
+
+/// Recovers a store's zone file and the journal that a change gives it, with the updates that made the recovered versions after the oldest one. It allocates memory.
+fn start_again(
+    alloc: Global,
+    text: &[u8],
+    journal: &[u8],
+) -> Result<(Recovery, Vec<RequestMessages>), Refusal>
+    ensures started { IfOk result (λ r. IsStarted text.now journal.now r.0) }
+    ensures updates { IfOk result (λ r. AreLastUpdates text.now journal.now (length r.0.newest.older.items) r.1.items) }
+    ensures refused { IfErr result (λ refusal. IsNotAgain text.now journal.now refusal) }
+{
+    match start_with_updates(alloc, text, journal) {
+        Ok(found) => Ok(found),
+        Err(Refusal::NoStart(fault)) => Err(refusal_again(fault)),
+        Err(refusal) => Err(refusal),
+    }
+}
+
+/// Why a store that a change gives isn't started: there is no memory; or the change can't be applied, since no NS can come before the others go (RFC 2136, 3.4.2.4).
+fn refusal_again(fault: StartFault) -> Refusal
+    ensures { result ≡ of_again fault }
+{
+    match fault {
+        StartFault::NoMemory => Refusal::NoMemory,
+        _ => Refusal::NoChange(ChangeFault::NoRoom),
+    }
 }
 
 /// Copies what follows a journal's last batch to a file, if it is torn, and gives the file's path.

@@ -1,15 +1,20 @@
 //! The journal of a store that is changed to the zone of a zone file (own).
-ghost use Rattle.std.specs.Prelude.{IfOk, IfErr};
-ghost use Rattle.store_server.specs.Taken.{IsTakenJournal};
+ghost use Rattle.std.specs.Prelude.{◌≡◌, ℕ, List, true, length, IfOk, IfErr};
+ghost use Rattle.dns_name.specs.Name.{is_same};
+ghost use Rattle.zone_tree.specs.Zone.{apex_of};
+ghost use Rattle.journal.specs.declared.heads.Head.{Head as HeadState};
+ghost use Rattle.journal.specs.Head.{salt_of};
+ghost use Rattle.journal.specs.Log.{octets_of};
+ghost use Rattle.journal.specs.Recovered.{IsOpened};
+ghost use Rattle.store_server.specs.Private.{of_prepare};
 ghost use Rattle.store_server.specs.Started.{IsNotTaken};
+ghost use Rattle.store_server.specs.Taken.{IsTakenJournal};
 
 use crate::refusal::Refusal;
 use dns_rdata::Serial;
-use journal::{
-    Head, Refused, TextSum, read_all, read_head, write_frame, write_head, write_request,
-};
-use std::alloc::Global;
-use store_recovery::{Recovery, StartFault};
+use journal::{Head, SUM, TextSum, read_all, read_head, write_frame, write_head, write_request};
+use std::alloc::{AllocError, Global};
+use store_recovery::Recovery;
 use update_messages::{PrepareFault, Prepared, prepare_change};
 use zone_change::{ChangeFault, ChangeSummary};
 use zone_tree::{Zone, ZoneRead};
@@ -33,59 +38,58 @@ pub(crate) fn taken_journal(
     random: [u8; 16],
     zone: &Zone,
 ) -> Result<(Vec<u8>, TakenZone), Refusal>
-    ensures journal { IfOk result (λ r. IsTakenJournal journal.now start.now zone.now given.now random r.0.items) }
+    requires opened { (bodies : List (List ℕ)) × (rest : List ℕ) × IsOpened journal.now start.now.head bodies rest }
+    requires apex { is_same (apex_of zone.now) (apex_of start.now.newest.last.zone) ≡ true }
+    ensures journal { IfOk result (λ r. IsTakenJournal journal.now start.now zone.now given.now random r.1 r.0.items) }
     ensures refused { IfErr result (λ refusal. IsNotTaken start.now.newest.last.zone zone.now refusal) }
 {
-    let served = start.newest.last.zone();
-    let (body, taken) = match prepare_change(alloc, served, zone) {
-        Ok(Prepared::Unchanged(serial)) => (None, TakenZone::Unchanged(serial)),
-        Ok(Prepared::Change(change)) => {
-            let body = write_request(alloc, &change.messages)?;
-            (Some(body), TakenZone::Changed(change.summary))
-        }
-        Err(fault) => return Err(refusal_of(fault)),
-    };
     let head = Head {
         random,
         origin: TextSum::of(given),
         ..start.head
     };
-    let octets = journal_with(alloc, &head, journal, body)?;
-    Ok((octets, taken))
+    let (mut octets, salt, number) = journal_under(alloc, &head, journal)?;
+    match prepare_change(alloc, start.newest.last.zone(), zone) {
+        Ok(Prepared::Unchanged(serial)) => Ok((octets, TakenZone::Unchanged(serial))),
+        Ok(Prepared::Change(change)) => {
+            let body = write_request(alloc, &change.messages)?;
+            octets.extend_from_slice(&write_frame(alloc, &salt, number, &body)?)?;
+            Ok((octets, TakenZone::Changed(change.summary)))
+        }
+        Err(fault) => Err(refusal_of(fault)),
+    }
 }
 
-/// The octets of a journal under a head, with the frames of another journal, and one of this body after them.
-fn journal_with(
+/// The octets of a journal under a head, with the frames of another journal; the salt of its frames, and their number. It allocates memory.
+fn journal_under(
     alloc: Global,
     head: &Head,
     journal: &[u8],
-    body: Option<Vec<u8>>,
-) -> Result<Vec<u8>, Refusal> {
+) -> Result<(Vec<u8>, [u8; SUM], u64), AllocError>
+    requires { (before : HeadState) × (bodies : List (List ℕ)) × (rest : List ℕ) × IsOpened journal.now before bodies rest }
+    ensures { IfOk result (λ r. (before : HeadState) (bodies : List (List ℕ)) (rest : List ℕ) → IsOpened journal.now before bodies rest
+        → (r.0.items ≡ octets_of head.now bodies) × (r.1 ≡ salt_of head.now) × (r.2 ≡ length bodies)) }
+{
     let (mut octets, salt) = write_head(alloc, head)?;
-    let (_, old_salt, behind) = match read_head(journal) {
+    let (_, own_salt, behind) = match read_head(journal) {
         Ok(found) => found,
-        Err(fault) => {
-            return Err(Refusal::NoStart(StartFault::Journal(Refused::BadHead(fault))));
-        }
+        Err(_) => unreachable!(),
     };
     let mut digested = 0;
-    let (bodies, _rest) = read_all(alloc, &old_salt, &mut digested, behind)?;
-    let mut number = 0u64;
-    for body in bodies {
-        octets.extend_from_slice(&write_frame(alloc, &salt, number, body)?)?;
-        number += 1;
+    let (bodies, _) = read_all(alloc, &own_salt, &mut digested, behind)?;
+    for (number, body) in bodies.iter().enumerate() {
+        octets.extend_from_slice(&write_frame(alloc, &salt, number as u64, body)?)?;
     }
-    if let Some(body) = body {
-        octets.extend_from_slice(&write_frame(alloc, &salt, number, &body)?)?;
-    }
-    Ok(octets)
+    Ok((octets, salt, bodies.len() as u64))
 }
 
 /// Why a store isn't changed to a zone.
-fn refusal_of(fault: PrepareFault) -> Refusal {
+fn refusal_of(fault: PrepareFault) -> Refusal
+    ensures { result ≡ of_prepare fault }
+{
     match fault {
         PrepareFault::Change(ChangeFault::NoMemory) | PrepareFault::NoMemory => Refusal::NoMemory,
         PrepareFault::Change(fault) => Refusal::NoChange(fault),
-        PrepareFault::TooLarge | PrepareFault::Unread => Refusal::TooLarge,
+        PrepareFault::TooLarge => Refusal::TooLarge,
     }
 }

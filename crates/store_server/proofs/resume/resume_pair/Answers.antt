@@ -1,5 +1,5 @@
 use Rattle.journal.specs.Batch.{Messages}
-use Rattle.std.proofs.Common.{◌≡◌, ◌-◌, ℕ, List, length, drop, refl, sym, ap, ◌∙◌}
+use Rattle.std.proofs.Common.{◌≡◌, ◌-◌, List, length, drop, refl, sym, ap, ◌∙◌}
 use Rattle.store_recovery.specs.Start.{IsStarted}
 use Rattle.store_server.proofs.RecoveredLemmas.{begins_with, ends_at, counts, recovered_once}
 use Rattle.store_server.proofs.resume.resume_pair.Goals as goal

@@ -78,7 +78,7 @@ returns-in-Zone-clause-served g c =
     subst (λ (t : List ℕ). IsStarted t octets start) c.deref.ensures.value (subst (λ (o : List ℕ). IsStarted c.deref.result.now o start) c.deref-2.ensures.value c.in_ok-start.ensures.started) in
     let chosen : IsChosen given.text.now given.origin.now given.taken text octets (IsZone zone) =
     record { start = start; is = is; chosen = chosen_as given.text.now given.origin.now given.taken c.args.random text octets start _ (IsZone zone) c.in-Zone.is c.in_ok-choice_of.ensures.chosen } in
-    zone_served given.text.now given.origin.now given.taken c.args.random text octets zone chosen c.take_text.result c.take_text.ensures.served c.take_text.ensures.taken
+    zone_served given.text.now given.origin.now given.taken c.args.random text octets zone chosen c.take_text.result c.take_text.ensures.served
 
 pub returns-in-Zone-clause-refused : goal.returns-in-Zone-clause-refused
 returns-in-Zone-clause-refused g c =
@@ -92,3 +92,9 @@ returns-in-Zone-clause-refused g c =
     let chosen : IsChosen given.text.now given.origin.now given.taken text octets (IsZone zone) =
     record { start = start; is = is; chosen = chosen_as given.text.now given.origin.now given.taken c.args.random text octets start _ (IsZone zone) c.in-Zone.is c.in_ok-choice_of.ensures.chosen } in
     zone_refused given.text.now given.origin.now given.taken c.args.random text octets zone chosen c.take_text.result c.take_text.ensures.refused
+
+pub take_text-requires-clause-apex : goal.take_text-requires-clause-apex
+take_text-requires-clause-apex g c =
+    let given = c.args.given in
+    let start = c.in_ok-start.start in
+    (chosen_as given.text.now given.origin.now given.taken c.args.random c.args.pair.text.items c.args.pair.journal.items start _ (IsZone c.in-Zone.zone) c.in-Zone.is c.in_ok-choice_of.ensures.chosen).3
