@@ -1,7 +1,6 @@
 -- What a store has stays through what is done with it.
-use Rattle.std.proofs.Common.{◌≡◌, ℕ, List, [], ◌∷◌, ◌++◌, Option, None, Some, take, drop, length, refl, sym, ap, ◌∙◌, subst, append_assoc, take-append-drop}
-use Rattle.std.specs.Prelude.{All, MatchOption}
-use Rattle.std.proofs.lemmas.List.Elements.{All-nil, All-cons}
+use Rattle.std.proofs.Common.{◌≡◌, ℕ, List, [], ◌∷◌, ◌++◌, take, drop, sym, ap, ◌∙◌, subst, append_assoc, take-append-drop}
+use Rattle.std.specs.Prelude.{All}
 use Rattle.dns_rdata.specs.Record.{Record}
 use Rattle.dns_message.specs.declared.update.Update.{Update}
 use Rattle.zone_tree.specs.Version.{Version}
@@ -12,7 +11,7 @@ use Rattle.journal.specs.Batch.{Messages, IsRequest}
 use Rattle.journal.specs.Recovered.{updates_in}
 use Rattle.update_batches.specs.declared.version_update.VersionUpdate.{VersionUpdate}
 use Rattle.update_batches.specs.Engine.{IsLast}
-use Rattle.update_batches.specs.Batch.{newest_of, versions_in, updates_of}
+use Rattle.update_batches.specs.Batch.{versions_in, updates_of}
 use Rattle.update_batches.proofs.BatchLemmas.{last_once}
 use Rattle.update_batches.specs.Journal.{AreMadeBy}
 use Rattle.store_recovery.specs.Replay.{AreRead}

@@ -1,5 +1,5 @@
 -- What a crash leaves at any moment of a call on a store.
-use Rattle.std.proofs.Common.{◌≡◌, false, ◌⊎◌, ℕ, List, [], ◌∷◌, ◌++◌, map, Option, inl, inr, sym, ap, ◌∙◌, subst, append-nil, append_assoc}
+use Rattle.std.proofs.Common.{◌≡◌, false, ℕ, List, [], ◌∷◌, ◌++◌, map, Option, inl, inr, sym, ap, ◌∙◌, subst, append-nil, append_assoc}
 use Rattle.std.specs.List.{AllByRecursion}
 use Rattle.dns_rdata.specs.Record.{Record}
 use Rattle.zone_tree.specs.Version.{Version}

@@ -3,7 +3,6 @@ use Rattle.std.specs.Prelude.{◌≡◌, ◌≢◌, ◌⊎◌, ℕ, Bool, true, 
 use Rattle.dns_rdata.specs.Record.{Record}
 use Rattle.journal.specs.declared.heads.Head.{Head}
 use Rattle.journal.specs.declared.heads.TextSum.{TextSum}
-use Rattle.journal.specs.declared.log.Log.{Log}
 use Rattle.journal.specs.Log.{Holds, IsStuck, is_stuck}
 use Rattle.store_files.specs.declared.file.FileDisk.{FileDisk}
 use Rattle.store_files.specs.File.{written, synced}

@@ -1,6 +1,6 @@
 -- The updates that a store has, in its zone text and in its journal (RFC 2136, 3.5; own).
 use Rattle.journal.specs.Batch.{Messages}
-use Rattle.std.specs.Prelude.{◌≡◌, ℕ, List, ◌++◌}
+use Rattle.std.specs.Prelude.{ℕ, List, ◌++◌}
 use Rattle.dns_rdata.specs.Record.{Record}
 use Rattle.dns_message.specs.declared.update.Update.{Update}
 use Rattle.zone_tree.specs.Version.{Version}

@@ -1,5 +1,5 @@
 -- A batch that is appended, and one that is not.
-use Rattle.std.proofs.Common.{◌≡◌, ◌<◌, length, refl, ap, sym, ◌∙◌}
+use Rattle.std.proofs.Common.{◌<◌, length, refl, ap, sym, ◌∙◌}
 use Rattle.std.specs.declared.io.Error.{Error as IoError}
 use Rattle.journal.specs.Log.{is_stuck}
 use Rattle.store_compaction.specs.Kept.{CompactedState}
