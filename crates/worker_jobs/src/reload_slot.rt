@@ -1,6 +1,5 @@
 //! The order for a reload, and its result, between two threads (own).
-ghost use Rattle.std.specs.Prelude.{◌≡◌, true, IfOk};
-ghost use Rattle.worker_jobs.specs.FileZone.{IsFileZone};
+ghost use Rattle.std.specs.Prelude.{◌≡◌, true};
 
 use dns_engine::SharedVersion;
 use dns_rdata::Serial;
@@ -8,9 +7,7 @@ use std::alloc::Global;
 use std::mem;
 use std::sync::{Arc, Condvar, Mutex, Wait};
 use update_batches::UpdateRequest;
-use update_messages::{PrepareFault, Prepared, PreparedChange, prepare_change};
 use zone_change::ChangeSummary;
-use zone_tree::Zone;
 
 /// The update that takes the zone that is served to that of the zone file.
 #[derive(Drop)]
@@ -29,23 +26,6 @@ pub enum FileZone {
     Unchanged(Serial),
     /// Another zone.
     Changed(FileChange),
-}
-
-/// What the zone of the zone file makes of the zone that is served. It allocates memory, and fails as [`prepare_change`] does.
-pub fn file_zone(alloc: Global, served: &Zone, next: &Zone) -> Result<FileZone, PrepareFault>
-    ensures { IfOk result (IsFileZone served.now next.now) }
-{
-    let change = match prepare_change(alloc, served, next)? {
-        Prepared::Unchanged(serial) => return Ok(FileZone::Unchanged(serial)),
-        Prepared::Change(change) => change,
-    };
-    let PreparedChange {
-        update,
-        messages,
-        summary,
-    } = change;
-    let request = UpdateRequest::joined(update, messages, true);
-    Ok(FileZone::Changed(FileChange { request, summary }))
 }
 
 /// What the zone file makes of the zone that is served, or why it is refused, as the last words of a line.
