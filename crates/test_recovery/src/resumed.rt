@@ -44,7 +44,7 @@ fn line_of(alloc: Global, started: &Started) -> Result<String, Fail> {
     }
     for update in &store.updates {
         line.push_str(", ")?;
-        line.push_str(hex::encode(alloc, update)?.as_str())?;
+        line.push_str(hex::encode(alloc, update.first())?.as_str())?;
     }
     Ok(line)
 }

@@ -2,7 +2,7 @@
 use crate::folders::{begun, found, make_folder, pair_of, put_pair};
 use std::fs;
 use std::test::Fail;
-use store_files::{begin_pair, is_in_place};
+use store_files::{NewText, begin_pair, is_in_place};
 
 /// Leaves in a directory what a crash before the rename leaves of the pair with a number.
 fn leave_half(rt: &HostRuntime, dir: &str, number: u64) -> Result<(), Fail> {
@@ -65,7 +65,7 @@ fn pairs_are_found(rt: HostRuntime) -> Result<(), Fail> {
     );
     assert!(rt; !fs::exists(&rt, "test_store_pairs/journal.new")?);
     fs::create_dir(&rt, "test_store_pairs/zone-3")?;
-    let outcome = put_pair(&rt, dir, 3, b"fourth");
+    let outcome = NewText::create(&rt, rt.alloc(), dir, 3);
     assert!(rt; outcome.is_err() && found(&rt, dir)? == before);
     fs::remove_dir_all(&rt, dir)?;
     Ok(())
