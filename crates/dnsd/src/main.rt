@@ -4,8 +4,7 @@
 //! each request that it reads, `check` prints the zone's text in its canonical form, `apply` prints the text of the zone after a transfer's messages,
 //! and `steps` plays a script. `zone` prints the zone of a store, by `command_line`, `journal` what its updates changed, by `stored_changes`, and
 //! `change` what changes from one zone to another, by `change_command`; `deploy` sends that to a server, by `zone_deploy`. `may` prints what a request
-//! gets by rules, by `rights`. `control` sends a command to a running server. `serve` answers on sockets, by the workers of `serve_workers`, with what
-//! `dnsd_setup` reads, locks and binds.
+//! gets by rules, by `rights`. `serve` answers on sockets, by the workers of `serve_workers`, with what `dnsd_setup` reads, locks and binds.
 #![tactic(auto)]
 
 pub mod key_rights;
@@ -16,8 +15,7 @@ pub mod thread_specs;
 use command_line::{Task, parse_words, tell_fault};
 use commands::{Command, FAILED};
 use dnsd_setup::{
-    ROOT_APEX, run_change, run_control, run_deploy, run_journal, run_may, run_on_streams,
-    run_stored,
+    ROOT_APEX, run_change, run_deploy, run_journal, run_may, run_on_streams, run_stored,
 };
 use log_lines::Level;
 use serve::run_serve;
@@ -100,7 +98,6 @@ fn run_task<
         Task::Change(change) => run_change(rt, change),
         Task::Deploy(deploy) => run_deploy(rt, deploy),
         Task::May(trial) => run_may(rt, trial),
-        Task::Control(control) => run_control(rt, *control),
     }
 }
 

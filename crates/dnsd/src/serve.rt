@@ -7,25 +7,24 @@ use crate::key_rights::{rights_for, shared_keys};
 use crate::secondaries::{SecondarySockets, secondaries_for};
 use crate::thread_specs::{thread_specs_for, work_limits_of};
 use command_line::{BAD_COMMAND, MAX_THREADS, Serve, StorePlan, is_routed};
-use commands::{DONE, FAILED, Source};
+use commands::{DONE, FAILED};
 use dnsd_setup::{
     BoundSockets, Entries, Listening, Log, LogLine, ServedZone, StartedZone, WorkerSockets,
-    ZoneStore, bind_control_at, bind_sockets, descriptors, keys_for, read_text_for, remove_control,
-    start_entries, start_reloads, start_store_for, tell_outside, text_for,
+    ZoneStore, bind_sockets, descriptors, keys_for, read_text_for, start_entries, start_store_for,
+    tell_outside, text_for,
 };
 use key_file::KeyFile;
 use notify::large_in;
 use requests::Allowed;
 use rights::Rule;
 use serve_workers::{
-    ConnectionPlan, ControlPlan, Most, Plan, ServeFault, Shutdown, ThreadSpec, UpdateConfig,
-    WorkLimit, serve_zone,
+    ConnectionPlan, Most, Plan, ServeFault, Shutdown, ThreadSpec, UpdateConfig, WorkLimit,
+    serve_zone,
 };
 use std::alloc::Global;
 use std::fs::{File, Files};
 use std::marker::Brand;
 use std::net::{Net, SocketAddr, TcpListener, TcpStream};
-use std::os::unix::net::UnixListener;
 use std::random::RandomSource;
 use std::rt::Env;
 use std::sync::Wait;
@@ -133,14 +132,8 @@ fn serve_store<
     };
     let begun = match start_store_for(rt, serve, plan, text) {
         Ok(Ok(begun)) => begun,
-        Ok(Err(status)) => {
-            unbind_control(rt, serve);
-            return Ok(status);
-        }
-        Err(fault) => {
-            unbind_control(rt, serve);
-            return Err(fault);
-        }
+        Ok(Err(status)) => return Ok(status),
+        Err(fault) => return Err(fault),
     };
     serve_on_sockets(rt, serve, begun, bound, keys)
 }
@@ -154,15 +147,12 @@ struct Bound {
     secondaries: SecondarySockets,
     /// The queue of the log's thread.
     entries: Entries,
-    /// The socket for the operator's commands, if there is one.
-    control: Option<UnixListener>,
 }
 
 /// Binds all sockets, and starts the log's thread. None if an address cannot be listened on or a secondary cannot be notified; standard error then
 /// has the reason.
 fn bind<
-    R: Files<File = File>
-        + Env
+    R: Env
         + Eprint
         + AllocGlobal
         + Net<Listener = TcpListener, Stream = TcpStream>
@@ -186,70 +176,14 @@ fn bind<
         Ok(None) => return Ok(None),
         Err(fault) => return Err(fault),
     };
-    let control = match bind_control_for(rt, serve) {
-        Ok(Ok(control)) => control,
-        Ok(Err(NotBound)) => return Ok(None),
-        Err(fault) => return Err(fault),
-    };
     match start_entries(rt) {
         Ok(entries) => Ok(Some(Bound {
             sockets,
             secondaries,
             entries,
-            control,
         })),
         Err(fault) => Err(io::Error::from(fault)),
     }
-}
-
-/// That a socket can't be listened on; standard error has the reason.
-#[derive(Clone, Copy)]
-struct NotBound;
-
-/// Binds the socket for the operator's commands, if there is to be one.
-fn bind_control_for<R: Files<File = File> + Env + Eprint + AllocGlobal + Net>(
-    rt: &R,
-    serve: &Serve<'_>,
-) -> io::Result<Result<Option<UnixListener>, NotBound>> {
-    let Some(path) = serve.control else {
-        return Ok(Ok(None));
-    };
-    match bind_control_at(rt, path) {
-        Ok(Some(listener)) => Ok(Ok(Some(listener))),
-        Ok(None) => Ok(Err(NotBound)),
-        Err(fault) => Err(fault),
-    }
-}
-
-/// Removes the socket for the operator's commands, which was bound, if there was to be one.
-fn unbind_control<R: Files<File = File>>(rt: &R, serve: &Serve<'_>) {
-    if let Some(path) = serve.control {
-        remove_control(rt, path);
-    }
-}
-
-/// What the thread needs that takes the operator's commands, if there is to be one. An error is lack of memory, or of a thread.
-fn control_for<R: Files<File = File> + AllocGlobal + Threads + Wait + Copy + Send + Drop + 'static>(
-    rt: &R,
-    serve: &Serve<'_>,
-    listener: Option<UnixListener>,
-) -> io::Result<Option<ControlPlan>> {
-    let Some(listener) = listener else {
-        return Ok(None);
-    };
-    let reloads = match serve.zone {
-        Source::Input => None,
-        Source::File(path) => match start_reloads(rt, path, &serve.origin) {
-            Ok(reloads) => Some(reloads),
-            Err(fault) => return Err(fault),
-        },
-    };
-    let beside = if serve.secondaries.is_empty() { 1 } else { 2 };
-    Ok(Some(ControlPlan {
-        listener,
-        reloads,
-        beside,
-    }))
 }
 
 /// Serves a zone on sockets that are already bound.
@@ -288,18 +222,21 @@ fn serve_on_sockets<
         sockets,
         secondaries,
         entries,
-        control,
     } = bound;
-    let control = match control_for(rt, serve, control) {
-        Ok(control) => control,
-        Err(fault) => return Err(fault),
-    };
     let (workers, addresses, kept) = sockets.into_parts();
     let log = Log::new(entries, listening_for(serve, &begun, addresses, kept));
     warn(rt, serve, &log);
     warn_of_zone(rt, serve, &begun, &log);
-    let served = serve_on_workers(rt, serve, begun, workers, secondaries, keys, control, &log);
-    unbind_control(rt, serve);
+    let served = serve_on_workers(
+        rt,
+        rt.alloc(),
+        serve,
+        begun,
+        workers,
+        secondaries,
+        keys,
+        &log,
+    );
     let status = status_of(rt, served, &log);
     log.end(rt);
     Ok(status)
@@ -405,31 +342,22 @@ fn serve_on_workers<
         + Drop,
 >(
     rt: &R,
+    alloc: Global,
     serve: &Serve<'_>,
     begun: StartedZone,
     sockets: Vec<WorkerSockets>,
     secondaries: SecondarySockets,
     keys: Option<&KeyFile>,
-    control: Option<ControlPlan>,
     log: &Log,
 ) -> Result<(), ServeFault>
     requires { CanStart begun }
 {
-    let alloc = rt.alloc();
     let Some(progresses) = work_limits_of(alloc, serve.workers, serve.most) else {
         return Err(ServeFault::NoMemory);
     };
     let telling = WorkLimit::new(u64::MAX);
     let apex = begun.zone().apex();
-    let specs = thread_specs_for(
-        alloc,
-        sockets,
-        secondaries,
-        control,
-        apex,
-        &progresses,
-        &telling,
-    );
+    let specs = thread_specs_for(alloc, sockets, secondaries, apex, &progresses, &telling);
     let Some(specs) = specs else {
         return Err(ServeFault::NoMemory);
     };
