@@ -26,7 +26,7 @@ fn send<R: Wait>(
 }
 
 // A text gives no result at three tends, and is waited for at none of them: a batch is appended before each, and a start recovers it. At the
-// fourth its journal is put in place, with the batches that came meanwhile. The journal starts with 156 octets, and a batch has 52, and 52 for
+// fourth its journal is put in place, with a batch for each of the four updates before, and the batches that came meanwhile. The journal starts with 156 octets, and a batch has 52, and 52 for
 // each of its updates: the second one makes it longer than 400.
 #[test]
 fn updates_go_on_while_a_text_is_written(rt: HostRuntime) -> Result<(), Fail> {
@@ -37,7 +37,7 @@ fn updates_go_on_while_a_text_is_written(rt: HostRuntime) -> Result<(), Fail> {
         ((5, 6), "text 0, batches 3, serials 7 to 12", true),
         ((6, 7), "text 0, batches 4, serials 7 to 13", true),
         ((7, 8), "text 0, batches 5, serials 7 to 14", true),
-        ((8, 9), "text 1, batches 5, serials 7 to 15", false),
+        ((8, 9), "text 1, batches 8, serials 7 to 15", false),
     ] {
         send(&rt, &rt, &mut store, numbers, line, writes)?;
     }

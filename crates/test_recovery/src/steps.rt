@@ -94,7 +94,7 @@ fn compact_first<R: Wait>(
         behind: "text 0, batches 2, serials 7 to 12",
     };
     let head = write_text(rt, files, store, 4, lines)?;
-    put_in_place(files, store, head, "text 1, batches 2, serials 7 to 12")?;
+    put_in_place(files, store, head, "text 1, batches 4, serials 7 to 12")?;
     check(is_there(files, DIR, "zone-0")?, "the text before goes")
 }
 
@@ -106,17 +106,17 @@ fn compact_again<R: Wait>(
 ) -> Result<(), Fail> {
     check(send(rt, files.alloc(), store, 6, 12)?, "six updates")?;
     let lines = Lines {
-        front: "text 1, batches 3, serials 10 to 18",
-        behind: "text 1, batches 4, serials 12 to 20",
+        front: "text 1, batches 5, serials 10 to 18",
+        behind: "text 1, batches 6, serials 12 to 20",
     };
     let head = write_text(rt, files, store, 12, lines)?;
-    put_in_place(files, store, head, "text 2, batches 2, serials 12 to 20")?;
+    put_in_place(files, store, head, "text 2, batches 9, serials 12 to 20")?;
     check(send(rt, files.alloc(), store, 14, 15)?, "an update")?;
     expect(
         files,
         DIR,
         &store.published,
-        "text 2, batches 3, serials 13 to 21",
+        "text 2, batches 10, serials 13 to 21",
     )
 }
 

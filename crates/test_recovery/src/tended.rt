@@ -43,30 +43,30 @@ fn tend<R: Wait>(
 }
 
 /// Two texts are started, each when the journal has more than 400 octets, and twice as many as after the last compaction. The journal starts
-/// with 156 octets, and a batch has 52, and 52 for each of its updates.
+/// with 156 octets, and a batch has 52, and 52 for each of its updates; a compaction makes a batch of each update that it keeps, up to eight.
 fn begin_texts<R: Wait>(rt: &R, files: &HostRuntime, store: &mut Store) -> Result<(), Fail> {
     let line = "text 0, batches 1, serials 7 to 10";
     send(rt, files, store, (1, 4), line, false)?;
     let line = "text 0, batches 2, serials 7 to 11";
     send(rt, files, store, (4, 5), line, true)?;
-    let line = "text 1, batches 1, serials 7 to 11";
+    let line = "text 1, batches 4, serials 7 to 11";
     tend(rt, files, store, line, false)?;
-    let line = "text 1, batches 2, serials 7 to 15";
+    let line = "text 1, batches 5, serials 7 to 15";
     send(rt, files, store, (5, 9), line, false)?;
-    let line = "text 1, batches 3, serials 11 to 19";
-    send(rt, files, store, (9, 13), line, true)
+    let line = "text 1, batches 6, serials 13 to 21";
+    send(rt, files, store, (9, 15), line, true)
 }
 
 /// The journal of the second text cannot be put in place: the old journal stays, that text is removed, and the next one is written when it is
 /// asked for the second time.
 fn fail_to_lay<R: Wait>(rt: &R, files: &HostRuntime, store: &mut Store) -> Result<(), Fail> {
-    let line = "text 1, batches 3, serials 11 to 19";
+    let line = "text 1, batches 6, serials 13 to 21";
     fs::create_dir(files, NEW_JOURNAL)?;
     tend(rt, files, store, line, true)?;
     fs::remove_dir(files, NEW_JOURNAL)?;
     check(!is_there(files, DIR, "zone-2")?, "the text stays")?;
     tend(rt, files, store, line, true)?;
-    let line = "text 3, batches 1, serials 11 to 19";
+    let line = "text 3, batches 8, serials 13 to 21";
     tend(rt, files, store, line, false)?;
     check(!is_there(files, DIR, "zone-1")?, "the text before stays")
 }
@@ -75,13 +75,13 @@ fn fail_to_lay<R: Wait>(rt: &R, files: &HostRuntime, store: &mut Store) -> Resul
 /// before.
 fn move_away<R: Wait>(rt: &R, files: &HostRuntime, store: &mut Store) -> Result<(), Fail> {
     fs::rename(files, DIR, MOVED)?;
-    let kept = store.append(rt, files.alloc(), 13, 14)?;
+    let kept = store.append(rt, files.alloc(), 15, 16)?;
     check(!kept, "a batch is kept in a folder that was moved")?;
     store.tend(rt, files.alloc());
     check(!fs::exists(files, DIR)?, "a folder is made in its place")?;
     fs::rename(files, MOVED, DIR)?;
-    let line = "text 3, batches 2, serials 12 to 20";
-    send(rt, files, store, (13, 14), line, false)
+    let line = "text 3, batches 9, serials 14 to 22";
+    send(rt, files, store, (15, 16), line, false)
 }
 
 #[test]
