@@ -1,9 +1,13 @@
 -- How the messages of a transfer are read.
-use Rattle.std.proofs.Common.{◌≡◌, ◌||◌, ◌==◌, not, nat_lt, cond, true, false, length, ℕ, zero, suc, ◌+◌, ◌-◌, ◌<◌, ◌≤◌, Bool, List, [], ◌∷◌, ◌++◌, map, append_assoc, Option, Some, None, refl, sym, ap, ◌∙◌, arith, option_map, option_and_then}
+use Rattle.std.proofs.Common.{subst, Result, Ok, Err, ◌≡◌, ◌||◌, ◌==◌, not, nat_lt, cond, true, false, length, ℕ, zero, suc, ◌+◌, ◌-◌, ◌<◌, ◌≤◌, Bool, List, [], ◌∷◌, ◌++◌, map, append_assoc, Option, Some, None, refl, sym, ap, ◌∙◌, arith, option_map, option_and_then}
 use Rattle.std.proofs.lemmas.List.{append-nil, length-map}
+use Rattle.dns_name.specs.Name.{Name}
 use Rattle.dns_rdata.specs.Raw.{RawRecord}
+use Rattle.wire_names.specs.NameAt.{name_at}
+use Rattle.wire_names.specs.Sizes.{behind_of}
+use Rattle.wire_names.specs.declared.part.NameReadFault.{NameReadFault}
 use Rattle.dns_message.specs.Message.{Entry, number_at}
-use Rattle.dns_message.specs.Reads.{question_at, questions_at, record_at, records_at, body_in, is_reply}
+use Rattle.dns_message.specs.Reads.{question_of, question_at, questions_at, record_at, records_at, body_in, is_reply}
 use Rattle.dns_message.specs.Received.{received, rcode_of, received_records, HasAnswerAt}
 use Rattle.dns_message.specs.declared.query.Question.{Question}
 use Rattle.dns_message.proofs.ReadLemmas.{place_of}
@@ -48,6 +52,36 @@ IsBehind-stop count msg at done place on more e =
     on.is
     ∙ ap (λ n. place_behind (questions_at n msg place)) (left count done more)
     ∙ ap place_behind (no_question (count - (done + 1)) msg place e)
+
+-- the same by a question's end alone
+abbrev end_of : Question × ℕ → ℕ
+end_of q = q.1
+
+passed_by : (count : ℕ) (msg : List ℕ) (at done place next : ℕ) (o : Option (Question × ℕ)) → IsBehind count msg at done place → done < count → question_at msg place ≡ o → Some next ≡ option_map end_of o → IsBehind count msg at (done + 1) next
+passed_by count msg at done place next None on more is e = absurd (cc)
+passed_by count msg at done place next (Some r) on more is e =
+    let same : next ≡ r.1 = cc in
+    subst (IsBehind count msg at (done + 1)) (sym same) (IsBehind-one count msg at done place r.0 r.1 on more is)
+
+pub IsBehind-passed : (count : ℕ) (msg : List ℕ) (at done place : ℕ) (found : Option ℕ) (next : ℕ) → IsBehind count msg at done place → done < count → found ≡ option_map end_of (question_at msg place) → found ≡ Some next → IsBehind count msg at (done + 1) next
+IsBehind-passed count msg at done place found next on more is e = passed_by count msg at done place next (question_at msg place) on more refl (sym e ∙ is)
+
+no_end : (o : Option (Question × ℕ)) → option_map end_of o ≡ None → o ≡ None
+no_end None e = refl
+no_end (Some r) e = absurd (cc)
+
+pub IsBehind-unread : (count : ℕ) (msg : List ℕ) (at done place : ℕ) (found : Option ℕ) → IsBehind count msg at done place → done < count → found ≡ option_map end_of (question_at msg place) → found ≡ None → place_behind (questions_at count msg at) ≡ None
+IsBehind-unread count msg at done place found on more is e = IsBehind-stop count msg at done place on more (no_end (question_at msg place) (sym is ∙ e))
+
+-- the end of a question after its name
+question_found_by : (msg : List ℕ) (next : ℕ) (found : Option ℕ) (o : Result (Name × ℕ) NameReadFault) → Some next ≡ behind_of o → ((name : Name) → found ≡ option_map end_of (question_of msg (Ok (name, next)))) → found ≡ option_map end_of (question_of msg o)
+question_found_by msg next found (Err fault) e is = absurd (cc)
+question_found_by msg next found (Ok r) e is =
+    let place : next ≡ r.1 = cc in
+    is r.0 ∙ ap (λ n. option_map end_of (question_of msg (Ok (r.0, n)))) place
+
+pub question_found : (msg : List ℕ) (at next : ℕ) (found : Option ℕ) → Some next ≡ behind_of (name_at msg at) → ((name : Name) → found ≡ option_map end_of (question_of msg (Ok (name, next)))) → found ≡ option_map end_of (question_at msg at)
+question_found msg at next found e is = question_found_by msg next found (name_at msg at) e is
 
 none_left : (msg : List ℕ) (place : ℕ) → place_behind (questions_at 0 msg place) ≡ Some place
 unfolding questions_at

@@ -1,14 +1,14 @@
 //! The messages of a transfer as they are received (RFC 5936, 2.2; RFC 1995, 4).
-ghost use Rattle.std.specs.Prelude.{◌≡◌, ◌≢◌, ◌+◌, ◌<◌, ◌≤◌, [], length, map, IfOk, OnErr, MatchOption, Some, None, unwrap_or};
+ghost use Rattle.std.specs.Prelude.{◌≡◌, ◌≢◌, ◌+◌, ◌<◌, ◌≤◌, [], length, map, IfOk, OnErr, MatchOption, Some, None, Ok, unwrap_or};
 ghost use Rattle.std.specs.Option.{option_map};
 ghost use Rattle.dns_message.specs.Expanded.{expanded_data};
-ghost use Rattle.dns_message.specs.Reads.{is_reply, questions_at, records_at, body_in};
+ghost use Rattle.dns_name.specs.Name.{Name as Labels};
+ghost use Rattle.dns_message.specs.Reads.{is_reply, question_of, question_at, questions_at, records_at, body_in};
 ghost use Rattle.dns_message.specs.Received.{rcode_of, received, received_records, HasAnswerAt};
 
 use crate::entry::{Entry, entry_at};
 use crate::read::{
     ANCOUNT, ARCOUNT, HEADER, MAX_PLAIN, NSCOUNT, QDCOUNT, behind_records, count_at, is_reply,
-    question_at,
 };
 use crate::sent::expanded;
 use crate::update::RawRecords;
@@ -89,10 +89,25 @@ pub(crate) fn behind_questions(octets: &Message<'_>, at: usize, count: u16) -> O
 {
     let mut place = at;
     for _ in 0..count {
-        let (_, next) = question_at(octets, place)?;
-        place = next;
+        place = behind_question(octets, place)?;
     }
     Some(place)
+}
+
+/// The position after the question at a position, which is passed over; None where it can't be read (RFC 1035, 4.1.2).
+fn behind_question(octets: &Message<'_>, at: usize) -> Option<usize>
+    ensures { result ≡ option_map (λ q. q.1) (question_at octets.now at) }
+{
+    let at = octets.behind_name(at)?;
+    question_end(octets.octets(), at)
+}
+
+/// The position after the question whose name ends at a position; None where the octets end before.
+fn question_end(octets: &[u8], at: usize) -> Option<usize>
+    ensures { (name : Labels) → result ≡ option_map (λ q. q.1) (question_of octets.now (Ok (name, at))) }
+{
+    let _ = octets.get(at..)?.get(..4)?;
+    Some(at + 4)
 }
 
 /// So many records from a position on as they are received; None where one of them can't be read.

@@ -48,13 +48,15 @@ fn additional_place(octets: &Message<'_>, count: u16, at: usize, others: bool) -
 fn last_place(octets: &Message<'_>, others: bool, at: usize) -> Option<Place>
     ensures { result ≡ option_map (last_place others at) (record_at octets.now at) }
 {
-    let (entry, _) = entry_at(octets, at)?;
+    // Most are no TSIG, and their owners aren't read.
+    let (rtype, _) = type_at(octets, at)?;
     if others {
         return Some(Place::Bad);
     }
-    if entry.rtype.0 != TSIG {
+    if rtype.0 != TSIG {
         return Some(Place::Bare);
     }
+    let (entry, _) = entry_at(octets, at)?;
     if entry.class.0 == 255 && entry.ttl == 0 {
         return Some(Place::At(at));
     }
