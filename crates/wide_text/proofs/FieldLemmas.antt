@@ -3,7 +3,6 @@ use Rattle.std.proofs.Common.{◌≡◌, ℕ, ◌+◌, ◌-◌, ◌<◌, ◌≤�
 use Rattle.std.proofs.lemmas.List.{drop_all, length-drop, at_drop_more, take_rest}
 use Rattle.record_text.specs.Data.{IsToldOf}
 use Rattle.record_text.specs.Private.{ReadsBehind}
-use Rattle.record_text.specs.Reading.{on_ok, and_then}
 use Rattle.record_text.specs.declared.cause.Cause.{Cause}
 use Rattle.record_text.specs.declared.cause.Cause.TheVariants.{BadData}
 use Rattle.record_text.proofs.DataLemmas.{behind}

@@ -1,20 +1,20 @@
 -- What the plain grammar reads is read alike: what stands before the data.
-use Rattle.std.proofs.Common.{◌≡◌, ◌<◌, ℕ, Bool, true, false, cond, not, ◌&&◌, ◌||◌, ◌==◌, nat_lt, List, [], ◌∷◌, length, map, drop, take, Option, Some, None, Result, Ok, Err, ok_or, refl, sym, ap, ◌∙◌, lit<, arith}
+use Rattle.std.proofs.Common.{◌≡◌, ◌<◌, ℕ, Bool, true, false, cond, not, ◌&&◌, ◌||◌, ◌==◌, nat_lt, List, [], ◌∷◌, length, Option, Some, None, Result, Ok, Err, ok_or, refl, sym, ap, ◌∙◌, lit<, arith}
 use Rattle.std.specs.Char.{is_ascii_digit, to_ascii_lowercase}
 use Rattle.std.specs.List.{list_all}
 use Rattle.std.specs.Option.{is_some, option_or}
 use Rattle.std.proofs.lemmas.Bool.Decides.{nat_tests}
 use Rattle.dns_rdata.specs.declared.numbers.Ttl.{Ttl}
 use Rattle.record_text.specs.Front.{Front, front_from as plain_from}
-use Rattle.record_text.specs.Mnemonics.{type_of, class_of, type_named, type_numbered, class_named, is_class_number}
-use Rattle.record_text.specs.Number.{are_digits, number_of, is_number}
+use Rattle.record_text.specs.Mnemonics.{type_of, class_of, type_named, type_numbered, class_named}
+use Rattle.record_text.specs.Number.{number_of, is_number}
 use Rattle.record_text.specs.Reading.{on_ok, and_then}
 use Rattle.record_text.specs.declared.cause.Cause.{Cause}
 use Rattle.record_text.specs.declared.cause.Cause.TheVariants.{UnknownType}
-use Rattle.wide_text.specs.Forms.{type_in_table}
+use Rattle.wide_text.specs.Forms.{other_type_named}
 use Rattle.wide_text.specs.Front.{front_from, wide_type_of}
 use Rattle.wide_text.specs.Times.{is_time, is_time_text, has_units_after}
-use Rattle.wide_text.proofs.PlainLemmas.{number_is_digits, number_is_time, read_first, read_on}
+use Rattle.wide_text.proofs.PlainLemmas.{number_is_time, read_first, read_on}
 use Rattle.zone_lexing.specs.Word.{Written}
 use Rattle.zone_lexing.specs.Word.Written.{Plain, Quoted, Unclosed}
 
@@ -65,7 +65,7 @@ some_ok None n e = cc
 some_ok (Some m) n e = cc
 
 type_widens : (word : Written) (n : ℕ) → type_of word ≡ Ok n → wide_type_of word ≡ Ok n
-type_widens (Plain text) n e = ap (λ (o : Option ℕ). ok_or (option_or o (type_in_table text)) UnknownType) (some_ok (type_named text) n e)
+type_widens (Plain text) n e = ap (λ (o : Option ℕ). ok_or (option_or o (other_type_named text)) UnknownType) (some_ok (type_named text) n e)
 type_widens (Quoted text) n e = cc
 type_widens Unclosed n e = cc
 

@@ -1,33 +1,30 @@
 -- Words that are written of data are read as the same octets: field by field, and what stands after the fields.
-use Rattle.std.proofs.Common.{◌≡◌, ℕ, zero, suc, ◌+◌, ◌^◌, ◌<◌, ◌≤◌, Bool, true, false, cond, ◌&&◌, ◌==◌, nat_le, List, [], ◌∷◌, ◌++◌, map, flat_map, length, drop, take, get_or, slice_index, decimal, All, Option, Some, None, option_map, option_and_then, Result, Ok, Err, ok_or, refl, sym, ap, subst, ◌∙◌, add-one, arith}
+use Rattle.std.proofs.Common.{◌≡◌, ℕ, zero, suc, ◌+◌, ◌^◌, ◌<◌, ◌≤◌, Bool, true, false, cond, ◌&&◌, nat_le, List, [], ◌∷◌, ◌++◌, flat_map, length, drop, take, get_or, decimal, All, Option, Some, None, option_map, Result, Ok, Err, ok_or, refl, sym, ap, subst, ◌∙◌, add-one, arith}
 use Rattle.std.specs.Int.{from_be_bytes, to_be_bytes, w16, w32}
-use Rattle.std.proofs.lemmas.Bool.Decides.{nat_tests, Decides-eqb}
-use Rattle.std.proofs.lemmas.List.{append-nil, take-append-drop, length-take-le, take_all, nil_from_length}
-use Rattle.std.proofs.lemmas.List.Elements.{All-nil, All-cons, All-head, All-tail, All-get_or, All-take, All-drop}
+use Rattle.std.proofs.lemmas.Bool.Decides.{nat_tests}
+use Rattle.std.proofs.lemmas.List.{length-take-le, take_all}
+use Rattle.std.proofs.lemmas.List.Elements.{All-nil, All-cons, All-head, All-tail, All-take}
 use Rattle.std.proofs.lemmas.Nat.{be_bytes_2, be_bytes_4}
 use Rattle.dns_name.specs.Name.{wire_of, name_in}
 use Rattle.dns_name.specs.Text.{text_of}
 use Rattle.dns_name.proofs.LawLemmas.{name_in-is_present}
 use Rattle.record_text.specs.Number.{number_of, is_number}
-use Rattle.record_text.specs.Reading.{on_ok, and_then}
+use Rattle.record_text.specs.Reading.{on_ok}
 use Rattle.record_text.specs.Strings.{string_of}
 use Rattle.record_text.specs.Text.{string_octet}
 use Rattle.record_text.specs.declared.cause.Cause.{Cause}
 use Rattle.record_text.specs.declared.cause.Cause.TheVariants.{BadData}
 use Rattle.record_text.proofs.BackLemmas.{AreOctets, decimal_read, number_back}
 use Rattle.record_text.proofs.FieldLemmas.{name_read}
-use Rattle.record_text.proofs.NumberLemmas.{by_test}
 use Rattle.record_text.proofs.StringLemmas.{string_some}
-use Rattle.wide_text.specs.Fields.{field_of, fields_of, rest_of}
-use Rattle.wide_text.specs.Texts.{is_tag, text_of as text_read}
-use Rattle.wide_text.specs.Words.{octet_at, short_at, long_at, string_at, tag_at, quoted, word_at, rest_words, words_by}
+use Rattle.wide_text.specs.Fields.{field_of}
+use Rattle.wide_text.specs.Texts.{is_tag}
+use Rattle.wide_text.specs.Words.{octet_at, short_at, long_at, string_at, tag_at, quoted, word_at}
 use Rattle.wide_text.specs.declared.forms.Field.{Field}
 use Rattle.wide_text.specs.declared.forms.Field.TheVariants as field
-use Rattle.wide_text.specs.declared.forms.Rest.{Rest}
-use Rattle.wide_text.specs.declared.forms.Rest.TheVariants as rest
 use Rattle.wide_text.proofs.QuoteLemmas.{unescaped_back}
 use Rattle.zone_lexing.specs.Word.{Written}
-use Rattle.zone_lexing.specs.Word.Written.{Plain, Quoted}
+use Rattle.zone_lexing.specs.Word.Written.{Plain}
 
 -- the word that octets begin with is read as them
 abbrev pub IsBack : Field → List ℕ → Option (Written × ℕ) → Type 0

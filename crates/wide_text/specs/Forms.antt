@@ -3,6 +3,7 @@ use Rattle.std.specs.Prelude.{ℕ, List, [], ◌∷◌, ◌==◌, codes, Option,
 use Rattle.std.specs.Option.{option_or}
 use Rattle.std.specs.List.{find}
 use Rattle.record_text.specs.Mnemonics.{is_word, type_named}
+use Rattle.wide_text.specs.Mnemonics.{number_named, signing_types}
 use Rattle.wide_text.specs.declared.forms.Field.{Field}
 use Rattle.wide_text.specs.declared.forms.Field.TheVariants as field
 use Rattle.wide_text.specs.declared.forms.Rest.{Rest}
@@ -70,6 +71,10 @@ form_of rtype = find (λ form. form.rtype == rtype) forms
 abbrev pub type_in_table : List ℕ → Option ℕ
 type_in_table text = option_map (λ form. form.rtype) (find (λ form. is_word text form.word) forms)
 
--- the type that a text names, in any case: one of the plain words, or one of the table
+-- and in the table or among the types of signers' records
+abbrev pub other_type_named : List ℕ → Option ℕ
+other_type_named text = option_or (type_in_table text) (number_named signing_types text)
+
+-- the type that a text names, in any case: one of the plain words, or one of those
 abbrev pub wide_type_named : List ℕ → Option ℕ
-wide_type_named text = option_or (type_named text) (type_in_table text)
+wide_type_named text = option_or (type_named text) (other_type_named text)

@@ -6,6 +6,7 @@ pub mod Front
 pub mod Laws
 pub mod Mnemonics
 pub mod Private
+pub mod Signing
 pub mod Texts
 pub mod Times
 pub mod Words

@@ -1,5 +1,5 @@
--- Numbers by their words: algorithms of DNSSEC and types of certificates.
-use Rattle.std.specs.Prelude.{ℕ, List, [], ◌∷◌, codes, if◌then◌else◌, Option, option_map, Result, Ok, Err, ok_or}
+-- Numbers by their words: algorithms of DNSSEC, types of certificates, and types of the records that signers make.
+use Rattle.std.specs.Prelude.{ℕ, List, [], ◌∷◌, codes, if◌then◌else◌, Option, option_map, Result, Err, ok_or}
 use Rattle.std.specs.List.{find}
 use Rattle.record_text.specs.Mnemonics.{is_word}
 use Rattle.record_text.specs.Number.{number_of, is_number}
@@ -55,6 +55,27 @@ certificate_types =
     ∷ record { word = codes "IACPKIX"; number = 8 }
     ∷ record { word = codes "URI"; number = 253 }
     ∷ record { word = codes "OID"; number = 254 }
+    ∷ []
+
+-- the types of the records that signers make of the others (RFC 4034, 3 and 4; RFC 5155, 3 and 4)
+unfoldable pub type_RRSIG : ℕ
+type_RRSIG = 46
+
+unfoldable pub type_NSEC : ℕ
+type_NSEC = 47
+
+unfoldable pub type_NSEC3 : ℕ
+type_NSEC3 = 50
+
+unfoldable pub type_NSEC3PARAM : ℕ
+type_NSEC3PARAM = 51
+
+unfoldable pub signing_types : List Mnemonic
+signing_types =
+    record { word = codes "RRSIG"; number = type_RRSIG }
+    ∷ record { word = codes "NSEC"; number = type_NSEC }
+    ∷ record { word = codes "NSEC3"; number = type_NSEC3 }
+    ∷ record { word = codes "NSEC3PARAM"; number = type_NSEC3PARAM }
     ∷ []
 
 -- the number that a text names, in any case

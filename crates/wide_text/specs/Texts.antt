@@ -1,5 +1,5 @@
 -- Texts as words: without a length, and tags (RFC 7553, 4.4; RFC 8659, 4.1).
-use Rattle.std.specs.Prelude.{ℕ, Bool, ◌&&◌, List, ◌∷◌, length, nat_lt, nat_le, if◌then◌else◌, Option, Result, Ok, Err, ok_or}
+use Rattle.std.specs.Prelude.{ℕ, Bool, ◌&&◌, List, ◌∷◌, length, nat_lt, nat_le, if◌then◌else◌, Result, Ok, Err, ok_or}
 use Rattle.std.specs.List.{list_all}
 use Rattle.std.specs.Char.{is_ascii_alphanumeric}
 use Rattle.record_text.specs.Strings.{unescaped}

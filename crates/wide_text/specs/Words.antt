@@ -1,5 +1,5 @@
 -- Data as words of its form (RFC 1035, 5.1).
-use Rattle.std.specs.Prelude.{ℕ, ◌+◌, ◌&&◌, ◌==◌, List, [], ◌∷◌, length, take, drop, flat_map, nat_le, decimal, if◌then◌else◌, Option, Some, None, option_map, option_and_then, unwrap_or, Result, Ok, Err}
+use Rattle.std.specs.Prelude.{ℕ, ◌+◌, ◌&&◌, ◌==◌, List, [], ◌∷◌, length, take, drop, flat_map, nat_le, decimal, if◌then◌else◌, Option, Some, None, option_map, option_and_then, unwrap_or, Ok, Err}
 use Rattle.std.specs.Int.{from_be_bytes, w16, w32}
 use Rattle.base64.specs.Engines.{standard}
 use Rattle.base64.specs.GeneralPurpose.{encode_of}

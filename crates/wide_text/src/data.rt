@@ -41,7 +41,7 @@ pub fn read_wide_data(
 }
 
 /// Whether the first word is `\#`, outside quotes.
-fn are_generic(words: &[Word<'_>]) -> bool
+pub(crate) fn are_generic(words: &[Word<'_>]) -> bool
     ensures { result ≡ are_generic (map written words.now) }
 {
     match words.first() {

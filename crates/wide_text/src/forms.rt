@@ -1,11 +1,12 @@
 //! The table of types: their words, their numbers and the fields of their data.
 ghost use Rattle.std.specs.Prelude.{◌≡◌, map, Ok, Err, IfOk, IfErr};
 ghost use Rattle.std.specs.Option.{option_map};
-ghost use Rattle.wide_text.specs.Forms.{form_of, form_seen, forms, type_in_table};
+ghost use Rattle.wide_text.specs.Forms.{form_of, form_seen, forms, other_type_named, type_in_table};
 ghost use Rattle.wide_text.specs.Front.{wide_type_of};
+ghost use Rattle.wide_text.specs.Mnemonics.{number_named, signing_types};
 ghost use Rattle.zone_lexing.specs.Word.{written};
 
-use crate::mnemonics::is_word;
+use crate::mnemonics::{is_word, number_named, signing_types};
 use dns_rdata::RType;
 use record_text::{Cause, rtype};
 use zone_lexing::Word;
@@ -220,7 +221,8 @@ pub fn form_of(rtype: RType) -> Option<Form>
     None
 }
 
-/// The type that a word is, in any case: a plain one, one of the table, or `TYPE` and its number (RFC 1035, 5.1; RFC 3597, 5).
+/// The type that a word is, in any case: a plain one, one of the table, one of those of signers' records, or `TYPE` and its number (RFC 1035, 5.1;
+/// RFC 3597, 5).
 ///
 /// `UnknownType` at another word, at a quoted string too; `Unclosed` where no word stands.
 pub fn wide_type(word: Word<'_>) -> Result<RType, Cause>
@@ -230,9 +232,29 @@ pub fn wide_type(word: Word<'_>) -> Result<RType, Cause>
     match rtype(word) {
         Ok(rtype) => Ok(rtype),
         Err(cause) => match word {
-            Word::Plain(text) => type_in_table(text).ok_or(Cause::UnknownType),
+            Word::Plain(text) => other_type(text).ok_or(Cause::UnknownType),
             Word::Quoted(_) | Word::Unclosed => Err(cause),
         },
+    }
+}
+
+/// The type that a text names, other than by a plain word; None where it names none.
+fn other_type(text: &[u8]) -> Option<RType>
+    ensures { option_map (λ rtype. rtype.0) result ≡ other_type_named text.now }
+{
+    match type_in_table(text) {
+        Some(rtype) => Some(rtype),
+        None => signing_type(text),
+    }
+}
+
+/// The type of signers' records that a text names; None where it names none.
+fn signing_type(text: &[u8]) -> Option<RType>
+    ensures { option_map (λ rtype. rtype.0) result ≡ number_named signing_types text.now }
+{
+    match number_named(text, signing_types()) {
+        Some(number) => Some(RType(u16::from(number))),
+        None => None,
     }
 }
 

@@ -1,9 +1,9 @@
-//! Numbers by their words: algorithms of DNSSEC and types of certificates.
+//! Numbers by their words: algorithms of DNSSEC, types of certificates, and types of the records that signers make.
 ghost use Rattle.std.specs.Prelude.{◌≡◌, ◌≤◌, map, Ok, Err, IfOk, IfSome};
 ghost use Rattle.std.specs.Option.{option_map};
 ghost use Rattle.std.specs.List.{find};
 ghost use Rattle.record_text.specs.Mnemonics.{is_word};
-ghost use Rattle.wide_text.specs.Mnemonics.{algorithms, certificate_types, mnemonic_seen, name_of, named_of, number_named};
+ghost use Rattle.wide_text.specs.Mnemonics.{algorithms, certificate_types, mnemonic_seen, name_of, named_of, number_named, signing_types};
 ghost use Rattle.zone_lexing.specs.Word.{written};
 
 use record_text::{Cause, is_number, number};
@@ -136,6 +136,38 @@ const CERTIFICATE_TYPES: [Mnemonic; 10] = [
     },
 ];
 
+/// The types of the records that signers make of the others (RFC 4034, 3 and 4; RFC 5155, 3 and 4).
+const SIGNING_TYPES: [Mnemonic; 4] = [
+    Mnemonic {
+        word: "RRSIG",
+        number: RRSIG,
+    },
+    Mnemonic {
+        word: "NSEC",
+        number: NSEC,
+    },
+    Mnemonic {
+        word: "NSEC3",
+        number: NSEC3,
+    },
+    Mnemonic {
+        word: "NSEC3PARAM",
+        number: NSEC3PARAM,
+    },
+];
+
+/// The type RRSIG (RFC 4034, 3).
+pub(crate) const RRSIG: u8 = 46;
+
+/// The type NSEC (RFC 4034, 4).
+pub(crate) const NSEC: u8 = 47;
+
+/// The type NSEC3 (RFC 5155, 3).
+pub(crate) const NSEC3: u8 = 50;
+
+/// The type NSEC3PARAM (RFC 5155, 4).
+pub(crate) const NSEC3PARAM: u8 = 51;
+
 /// The algorithms of DNSSEC.
 #[tactic(auto, unfolding(crate::specs::Mnemonics::algorithms))]
 pub(crate) fn all_algorithms() -> &'static [Mnemonic]
@@ -150,6 +182,14 @@ pub(crate) fn all_certificate_types() -> &'static [Mnemonic]
     ensures { map mnemonic_seen result.now ≡ certificate_types }
 {
     &CERTIFICATE_TYPES
+}
+
+/// The types of the records that signers make of the others.
+#[tactic(auto, unfolding(crate::specs::Mnemonics::signing_types, crate::specs::Mnemonics::type_RRSIG, crate::specs::Mnemonics::type_NSEC, crate::specs::Mnemonics::type_NSEC3, crate::specs::Mnemonics::type_NSEC3PARAM))]
+pub(crate) fn signing_types() -> &'static [Mnemonic]
+    ensures { map mnemonic_seen result.now ≡ signing_types }
+{
+    &SIGNING_TYPES
 }
 
 /// The number that a word is: decimal digits, at most the greatest one given, or one of the words of a table, in any case.
@@ -174,7 +214,7 @@ pub(crate) fn named(word: Word<'_>, most: u32, mnemonics: &[Mnemonic]) -> Result
 }
 
 /// The number that a text names in a table; None where it names none.
-fn number_named(text: &[u8], mnemonics: &[Mnemonic]) -> Option<u8>
+pub(crate) fn number_named(text: &[u8], mnemonics: &[Mnemonic]) -> Option<u8>
     ensures { result ≡ number_named (map mnemonic_seen mnemonics.now) text.now }
 {
     for mnemonic in mnemonics {

@@ -1,4 +1,4 @@
-use Rattle.std.proofs.Common.{ℕ, true, false, ltb, ◌≡◌, ◌≤◌, length, arith}
+use Rattle.std.proofs.Common.{ℕ, false, ltb, ◌≡◌, ◌≤◌, length, arith}
 use Rattle.std.proofs.lemmas.Bool.Decides.{nat_tests}
 use Rattle.record_text.proofs.DataLemmas.{IsToldOf-behind}
 use Rattle.std.proofs.lemmas.Result.{IfErr-weaker}
