@@ -3,21 +3,21 @@ use Rattle.std.proofs.Common.{◌≡◌, ℕ, ◌⊎◌, inl, inr, Bool, Option,
 use Rattle.record_text.specs.declared.cause.Cause.{Cause}
 use Rattle.record_text.specs.declared.cause.Cause.TheVariants.{NoMemory}
 use Rattle.wide_file.specs.declared.context.Context.{Context}
-use Rattle.master_file.specs.declared.record_entry.RecordEntry.{RecordEntry}
+use Rattle.wide_file.specs.declared.record_entry.WideEntry.{WideEntry}
 use Rattle.zone_lexing.specs.declared.entry.EntryHead.{EntryHead}
 use Rattle.zone_lexing.specs.declared.word.Word.{Word}
 use Rattle.record_text.specs.Data.{IsToldOf}
 use Rattle.zone_lexing.specs.Entries.{Entry}
-use Rattle.master_file.specs.Records.{Read, faulty, in_front, fault_at, IsFirst}
-use Rattle.wide_file.specs.WideRecords.{judged, records_from}
+use Rattle.master_file.specs.Records.{fault_at, IsFirst}
+use Rattle.wide_file.specs.WideRecords.{WideRead, faulty, in_front, judged, records_from}
 use Rattle.zone_lexing.specs.Word.{Written, written}
 
 -- what the first entry's judgement makes of the records
-abbrev then : ℕ → Option ℕ → List Entry → Result (Context × Option RecordEntry) Cause → Read
+abbrev then : ℕ → Option ℕ → List Entry → Result (Context × Option WideEntry) Cause → WideRead
 then line unclosed entries r = elim r [
   | Err cause ↦ faulty (fault_at line unclosed cause)
   | Ok (next, None) ↦ records_from next entries
-  | Ok (next, Some rr) ↦ in_front rr (records_from next entries)
+  | Ok (next, Some own) ↦ in_front own (records_from next entries)
 ]
 
 -- the records from the first entry on, by what its words are judged to be

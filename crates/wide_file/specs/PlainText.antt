@@ -1,47 +1,49 @@
--- A zone file as plain text, a record a line, and the zone of that.
-use Rattle.std.specs.Prelude.{ℕ, ◌-◌, List, [], ◌∷◌, ◌++◌, flat_map, map, slice_index, Option, Some, None, Result, Ok, Err}
+-- A zone file as plain text, each record on the line of its entry, and the zone of that.
+use Rattle.std.specs.Prelude.{ℕ, suc, zero, ◌+◌, ◌-◌, List, [], ◌∷◌, ◌++◌, Option, Some, None, Result, Ok, Err}
 use Rattle.dns_name.specs.Name.{Name}
 use Rattle.dns_rdata.specs.Record.{Record}
-use Rattle.master_file.specs.Records.{Read}
 use Rattle.master_file.specs.WrittenZone.{record_line}
 use Rattle.master_file.specs.ZoneText.{record_in, zone_of_text}
 use Rattle.master_file.specs.declared.fault.FileFault.{FileFault}
-use Rattle.master_file.specs.declared.record_entry.RecordEntry.{RecordEntry}
-use Rattle.wide_file.specs.WideRecords.{wide_records}
+use Rattle.wide_file.specs.WideRecords.{WideRead, wide_records}
+use Rattle.wide_file.specs.declared.record_entry.WideEntry.{WideEntry}
+use Rattle.wide_file.specs.declared.record_entry.WideEntry.TheVariants as entry
 
--- records as plain text, each a line, in their order
-abbrev pub lines_text : List RecordEntry → List ℕ
-lines_text rrs = flat_map (λ rr. record_line (record_in rr)) rrs
+-- so many empty lines
+abbrev pub empty_lines : ℕ → List ℕ
+empty_lines zero = []
+empty_lines (suc n) = 10 ∷ empty_lines n
 
--- the lines of the file on which they stand
-abbrev pub lines_of : List RecordEntry → List ℕ
-lines_of rrs = map (λ rr. rr.line) rrs
+-- records as plain text in their order, each on the line on which its entry begins; the lines before the text are given
+abbrev pub lines_text : ℕ → List WideEntry → List ℕ
+lines_text line [] = []
+lines_text line (entry.Record rr ∷ entries) = (empty_lines (rr.line - line - 1) ++ record_line (record_in rr)) ++ lines_text rr.line entries
+lines_text line (entry.LeftOut left ∷ entries) = lines_text line entries
 
--- a text with the lines of records after it, the numbers of their lines in the file, and what is wrong after them
+-- the lines on which the entries begin that are left out
+abbrev pub left_lines : List WideEntry → List ℕ
+left_lines [] = []
+left_lines (entry.Record rr ∷ entries) = left_lines entries
+left_lines (entry.LeftOut left ∷ entries) = left.line ∷ left_lines entries
+
+-- a plain text, the lines of what is left out of it, and what is wrong after it
 pub record Spelled : Type 0 where
   pub text : List ℕ
-  pub lines : List ℕ
+  pub left_out : List ℕ
   pub fault : Option FileFault
 
-abbrev pub spelled_after : List ℕ → List ℕ → Read → Spelled
-spelled_after text lines read = record { text = text ++ lines_text read.rrs; lines = lines ++ lines_of read.rrs; fault = read.fault }
+-- what is read after a text of so many lines
+abbrev pub spelled_after : List ℕ → ℕ → List ℕ → WideRead → Spelled
+spelled_after text line left_out read =
+    record { text = text ++ lines_text line read.entries; left_out = left_out ++ left_lines read.entries; fault = read.fault }
 
 -- a zone file as plain text
 abbrev pub spelled : Name → List ℕ → Spelled
-spelled origin text = spelled_after [] [] (wide_records origin text)
+spelled origin text = spelled_after [] 0 [] (wide_records origin text)
 
--- the line of the file of a line of the plain text; 0 stays 0
-abbrev pub line_in : List ℕ → ℕ → ℕ
-line_in lines line = slice_index (0 ∷ lines) line
-
--- a zone, or a fault on the line of the file
-abbrev pub at_lines : List ℕ → Result (List Record) FileFault → Result (List Record) FileFault
-at_lines lines (Ok zone) = Ok zone
-at_lines lines (Err fault) = Err (record { line = line_in lines fault.line; cause = fault.cause })
-
--- the zone of what is spelled: a fault of an entry is reported before one of the zone (own)
+-- the zone of a plain text: a fault of an entry is reported before one of the zone (own)
 abbrev pub zone_of_spelled : Spelled → Result (List Record) FileFault
-zone_of_spelled spelled = elim spelled.fault [ Some fault ↦ Err fault | None ↦ at_lines spelled.lines (zone_of_text [] spelled.text) ]
+zone_of_spelled spelled = elim spelled.fault [ Some fault ↦ Err fault | None ↦ zone_of_text [] spelled.text ]
 
 -- the zone of a zone file
 abbrev pub wide_zone : Name → List ℕ → Result (List Record) FileFault

@@ -3,10 +3,11 @@ ghost use Rattle.std.specs.Prelude.{◌≡◌, ◌<◌, ◌^◌, Ok, Err, Some, 
 ghost use Rattle.std.specs.Option.{option_map};
 ghost use Rattle.master_file.specs.Records.{argument_of, directive_of};
 ghost use Rattle.record_text.specs.NameWord.{owner_of};
-ghost use Rattle.wide_file.specs.WideRecords.{directed, minimum_ttl, start, ttl_in, IsInForce};
+ghost use Rattle.wide_file.specs.WideRecords.{after_entry, directed, minimum_ttl, start, ttl_in, IsInForce, IsLawful};
 ghost use Rattle.wide_text.specs.Times.{ttl_of};
 ghost use Rattle.zone_lexing.specs.Word.{written};
 
+use crate::record_entry::WideEntry;
 use dns_name::Name;
 use dns_rdata::{RData, Ttl};
 use record_text::{Cause, owner, surplus};
@@ -94,6 +95,25 @@ impl Context {
             (None, Some(ttl), _) => Ok(ttl),
             (None, None, Some(ttl)) => Ok(ttl),
             (None, None, None) => minimum(rdata),
+        }
+    }
+
+    /// Puts the owner and the TTL of a record in force; of one that is left out its TTL only where one is written.
+    pub fn pass(&mut self, own: &WideEntry)
+        requires in_force { IsInForce self.old }
+        requires lawful { IsLawful own.now }
+        ensures { self.new ≡ after_entry self.old own.now }
+        ensures in_force { IsInForce self.new }
+    {
+        match own {
+            WideEntry::Record(rr) => {
+                self.owner = Some(rr.owner.copy());
+                self.ttl = Some(rr.ttl);
+            }
+            WideEntry::LeftOut(left) => {
+                self.owner = Some(left.owner.copy());
+                self.ttl = left.ttl.or(self.ttl);
+            }
         }
     }
 }

@@ -1,7 +1,7 @@
 //! Zone files as they are in use (RFC 1035, 5): the words of many types, times with units, directives in any case. A file is rewritten as plain text,
-//! a record a line, and the zone is that of the plain text.
+//! each record on the line on which it begins, and the zone is that of the plain text. Records that signers make are left out.
 //!
-//! Contracts see the records of a file that are left as a list, up to the first fault, and that fault.
+//! Contracts see what isn't read yet of a file as a list of records, up to the first fault, and that fault.
 #![tactic(auto)]
 
 mod context;
@@ -10,4 +10,5 @@ mod record_entry;
 mod records;
 
 pub use plain_text::{PlainText, plain_text, read_wide_zone};
+pub use record_entry::{LeftOut, WideEntry};
 pub use records::WideRecords;

@@ -1,24 +1,21 @@
 //! A zone file, read record by record (RFC 1035, 5.1; RFC 2308, 4).
 ghost use Rattle.std.specs.Prelude.{◌≡◌, ◌<◌, ◌^◌, ◌⊎◌, List, [], map, Some, Ok, Err, IfOk, IfErr, OnErr, IfSome, MatchOption};
-ghost use Rattle.dns_name.specs.Name.{fold_name};
-ghost use Rattle.record_text.specs.declared.cause.Cause.TheVariants.{NoMemory};
 ghost use Rattle.record_text.specs.Data.{IsToldOf};
 ghost use Rattle.master_file.specs.Fault.{no_memory};
-ghost use Rattle.master_file.specs.Records.{nothing, faulty, in_front, fault_at, IsFirst};
-ghost use Rattle.wide_file.specs.WideRecords.{wide_records, judged, IsInForce};
+ghost use Rattle.master_file.specs.Records.{fault_at, IsFirst};
+ghost use Rattle.wide_file.specs.WideRecords.{after_entry, faulty, in_front, judged, nothing, wide_records, IsInForce, IsLawful};
 ghost use Rattle.zone_lexing.specs.Word.{written};
 
 use crate::context::{Context, directive};
-use crate::record_entry::read_record;
+use crate::record_entry::{WideEntry, read_entry};
 use dns_name::Name;
-use master_file::{FileFault, RecordEntry};
+use master_file::FileFault;
 use record_text::Cause;
 use std::alloc::{AllocError, Global};
 use std::marker::Model;
 use zone_lexing::{Entries, EntryHead, Word};
 
-/// The records of a zone's text that are left. Contracts see the list of them, up to the first fault, and that
-/// fault.
+/// What isn't read yet of a zone file. Contracts see its entries but for directives, up to the first fault, and that fault.
 #[derive(Drop)]
 pub struct WideRecords<'a> {
     entries: Entries<'a>,
@@ -27,10 +24,9 @@ pub struct WideRecords<'a> {
 }
 
 impl<'a> Model for WideRecords<'a> {
-    ghost use Rattle.master_file.specs.Records.{Read};
-    ghost use Rattle.wide_file.specs.WideRecords.{records_from, IsInForce};
+    ghost use Rattle.wide_file.specs.WideRecords.{records_from, IsInForce, WideRead};
 
-    ghost Value = { Read };
+    ghost Value = { WideRead };
 
     ghost view = { λ a. records_from a.context a.entries };
 
@@ -38,7 +34,7 @@ impl<'a> Model for WideRecords<'a> {
 }
 
 impl<'a> WideRecords<'a> {
-    /// The records of a text, its names relative to the origin.
+    /// All of a file's text, its names relative to the origin.
     pub fn new(alloc: Global, text: &'a [u8], origin: &Name) -> WideRecords<'a>
         ensures { result ≡ wide_records origin.now text.now }
     {
@@ -49,16 +45,15 @@ impl<'a> WideRecords<'a> {
         }
     }
 
-    /// The next record; None after the last. Entries are judged in order and the words of each from left to right, and
-    /// the first fault is told (RFC 1035, 5.1).
+    /// The next record, or one that is left out; None after the last. Entries are read in order and the words of each from left to right, and the
+    /// first fault is returned (RFC 1035, 5.1).
     ///
-    /// `NoMemory` only where a growth was refused, at line 0. Nothing is said of the records after a fault.
-    pub fn next(&mut self, alloc: Global) -> Result<Option<RecordEntry>, FileFault>
-        ensures record { IfOk result (λ found. MatchOption found
+    /// `NoMemory` only where a growth was refused, at line 0. Nothing is said of the entries after a fault.
+    pub fn next(&mut self, alloc: Global) -> Result<Option<WideEntry>, FileFault>
+        ensures entry { IfOk result (λ found. MatchOption found
             (self.old ≡ nothing)
-            (λ rr. self.old ≡ in_front rr self.new)) }
-        ensures lasts { IfOk result (λ found. IfSome found (λ rr. rr.ttl.0 < 2 ^ 31)) }
-        ensures folded { IfOk result (λ found. IfSome found (λ rr. rr.owner ≡ fold_name rr.owner)) }
+            (λ own. self.old ≡ in_front own self.new)) }
+        ensures lawful { IfOk result (λ found. IfSome found IsLawful) }
         ensures fault { IfErr result (λ fault. (fault ≡ no_memory) ⊎ (self.old ≡ faulty fault)) }
     {
         loop {
@@ -66,7 +61,7 @@ impl<'a> WideRecords<'a> {
                 return Ok(None);
             };
             match judge(alloc, &mut self.context, head, &self.words) {
-                Ok(Some(rr)) => return Ok(Some(rr)),
+                Ok(Some(own)) => return Ok(Some(own)),
                 Ok(None) => {}
                 Err(cause) => return Err(fault(head, cause)),
             }
@@ -108,17 +103,16 @@ fn fault(head: EntryHead, cause: Cause) -> FileFault
     FileFault { line, cause }
 }
 
-/// Judges an entry's words: a directive is put in force, and a record is read; None where there is none.
+/// Reads an entry's words: a directive is put in force, and a record is read; None where there is none.
 fn judge(
     alloc: Global,
     context: &mut Context,
     head: EntryHead,
     words: &[Word<'_>],
-) -> Result<Option<RecordEntry>, Cause>
+) -> Result<Option<WideEntry>, Cause>
     requires in_force { IsInForce context.old }
     ensures judged { IfOk result (λ found. judged context.old head.line head.indented (map written words.now) ≡ Ok (context.new, found)) }
-    ensures lasts { IfOk result (λ found. IfSome found (λ rr. rr.ttl.0 < 2 ^ 31)) }
-    ensures folded { IfOk result (λ found. IfSome found (λ rr. rr.owner ≡ fold_name rr.owner)) }
+    ensures lawful { IfOk result (λ found. IfSome found IsLawful) }
     ensures fault { IfErr result (IsToldOf (judged context.old head.line head.indented (map written words.now))) }
     ensures in_force { IsInForce context.new }
 {
@@ -126,8 +120,7 @@ fn judge(
         context.direct(directive, arguments)?;
         return Ok(None);
     }
-    let rr = read_record(alloc, context, head.line, head.indented, words)?;
-    context.owner = Some(rr.owner.copy());
-    context.ttl = Some(rr.ttl);
-    Ok(Some(rr))
+    let own = read_entry(alloc, context, head.line, head.indented, words)?;
+    context.pass(&own);
+    Ok(Some(own))
 }

@@ -1,5 +1,6 @@
 use Rattle.std.proofs.Common.{inl, inr, ap, sym, ◌∙◌}
-use Rattle.master_file.specs.Records.{faulty, fault_at}
+use Rattle.master_file.specs.Records.{fault_at}
+use Rattle.wide_file.specs.WideRecords.{faulty}
 use Rattle.wide_file.proofs.RecordLemmas.{fault_first}
 use Rattle.wide_file.proofs.records.WideRecords.next.Goals as goal
 
