@@ -10,8 +10,8 @@ use command_line::{BAD_COMMAND, MAX_THREADS, Serve, StorePlan, is_routed};
 use commands::{DONE, FAILED};
 use dnsd_setup::{
     BoundSockets, Entries, Listening, Log, LogLine, ServedZone, StartedZone, WorkerSockets,
-    ZoneStore, bind_sockets, descriptors, keys_for, read_text_for, start_entries, start_store_for,
-    tell_outside, text_for,
+    ZoneStore, ZoneText, bind_sockets, descriptors, keys_for, read_text_for, start_entries,
+    start_store_for, tell_outside, text_for,
 };
 use key_file::KeyFile;
 use notify::large_in;
@@ -63,8 +63,10 @@ pub fn run_serve<
         Ok(Err(status)) => return Ok(status),
         Err(fault) => return Err(fault),
     };
-    let Some(text) = text_for(rt, serve)? else {
-        return Ok(FAILED);
+    let text = match text_for(rt, serve) {
+        Ok(Ok(text)) => text,
+        Ok(Err(status)) => return Ok(status),
+        Err(fault) => return Err(fault),
     };
     match serve.store {
         Some(plan) => serve_store(rt, serve, plan, text, keys.as_ref()),
@@ -88,7 +90,7 @@ fn serve_zone_text<
         + Sync
         + Drop
         + 'static,
->(rt: &R, serve: &Serve<'_>, text: Vec<u8>, keys: Option<&KeyFile>) -> io::Result<u8> {
+>(rt: &R, serve: &Serve<'_>, text: ZoneText, keys: Option<&KeyFile>) -> io::Result<u8> {
     let begun = match read_text_for(rt, serve, text) {
         Ok(Ok(begun)) => begun,
         Ok(Err(status)) => return Ok(status),
@@ -122,7 +124,7 @@ fn serve_store<
     rt: &R,
     serve: &Serve<'_>,
     plan: StorePlan<'_>,
-    text: Vec<u8>,
+    text: ZoneText,
     keys: Option<&KeyFile>,
 ) -> io::Result<u8> {
     let bound = match bind(rt, serve, keys.map(|file| &file.keys)) {

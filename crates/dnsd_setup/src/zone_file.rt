@@ -3,13 +3,16 @@ ghost use Rattle.std.specs.Prelude.{IfOk};
 ghost use Rattle.dnsd_setup.specs.Starts.{CanStart};
 
 use crate::started_zone::StartedZone;
+use crate::zone_text::ZoneText;
 use command_line::Serve;
-use commands::{Fault, Source, read_zone_text, report_fault};
+use commands::{FAILED, Fault, Source, read_zone_text, report_fault, report_fault_of};
+use dns_name::Name;
 use log_lines::Level;
 use master_file::{FileFault, read_zone};
 use std::io::{BufRead, BufReader};
 use std::rt::{Env, Files};
 use std::{fs, io};
+use store_recovery::Take;
 
 /// The text in a zone's file. None if it cannot be read; standard error then has the reason.
 pub fn read_zone_file<R: Files + Eprint + AllocGlobal>(
@@ -26,7 +29,7 @@ pub fn read_zone_file<R: Files + Eprint + AllocGlobal>(
 }
 
 /// The text of a source: a file, or standard input up to a line `%`. None if it cannot be read; standard error then has the reason.
-pub(crate) fn text_from<R: Files + Eprint + AllocGlobal, I: BufRead>(
+fn text_from<R: Files + Eprint + AllocGlobal, I: BufRead>(
     rt: &R,
     source: Source<'_>,
     reader: &mut I,
@@ -37,18 +40,108 @@ pub(crate) fn text_from<R: Files + Eprint + AllocGlobal, I: BufRead>(
     }
 }
 
-/// The text of the zone that is served. None if its file cannot be read; standard error then has the reason.
-pub fn text_for<R: Files + Eprint + Input + AllocGlobal>(
+/// The text of a source; `is_wide` is whether it is read as other servers read zone files, its names relative to the origin. If it cannot be read, or
+/// a file of that kind is refused, returns the program's status, and standard error has the reason.
+pub(crate) fn zone_text_from<R: Files + Eprint + AllocGlobal, I: BufRead>(
+    rt: &R,
+    source: Source<'_>,
+    origin: &Name,
+    is_wide: bool,
+    reader: &mut I,
+) -> io::Result<Result<ZoneText, u8>> {
+    let Some(text) = text_from(rt, source, reader)? else {
+        return Ok(Err(FAILED));
+    };
+    if !is_wide {
+        return Ok(Ok(ZoneText::new(text)));
+    }
+    match ZoneText::wide(rt.alloc(), text, origin) {
+        Ok(text) => {
+            tell_left_out(rt, "", source, &text)?;
+            Ok(Ok(text))
+        }
+        Err(refused) => {
+            let mut errors = Vec::new(rt.alloc());
+            let fault = Err(Fault::Zone(refused.fault));
+            let shown = refused.source.as_slice();
+            let status = report_fault_of(rt.alloc(), fault, source, shown, &mut errors);
+            rt.eprint(String::from_utf8_lossy(rt.alloc(), errors.as_slice())?)?;
+            Ok(Err(status))
+        }
+    }
+}
+
+/// Reports on standard error how many records are left out of a text, if there are any.
+fn tell_left_out<R: Eprint + AllocGlobal>(
+    rt: &R,
+    mark: &str,
+    source: Source<'_>,
+    text: &ZoneText,
+) -> io::Result<()> {
+    let lines = text.left_out();
+    let [first, ..] = lines else {
+        return Ok(());
+    };
+    let count = lines.len();
+    match source {
+        Source::Input => eprintln!(rt;
+            "{mark}records left out (RRSIG, NSEC, NSEC3, NSEC3PARAM): {count}, the first on line {first}"
+        ),
+        Source::File(path) => eprintln!(rt;
+            "{mark}{path}: records left out (RRSIG, NSEC, NSEC3, NSEC3PARAM): {count}, the first on line {first}"
+        ),
+    }
+}
+
+/// The text of the zone that is served. If it cannot be read, or a zone file as other servers read it is refused, returns the program's status, and
+/// standard error has the reason.
+pub fn text_for<R: Env + Files + Eprint + Input + AllocGlobal>(
     rt: &R,
     serve: &Serve<'_>,
-) -> io::Result<Option<Vec<u8>>> {
+) -> io::Result<Result<ZoneText, u8>> {
     let alloc = rt.alloc();
-    match serve.zone {
+    let read = match serve.zone {
         Source::Input => {
             let text = read_zone_text(alloc, &mut BufReader::new(alloc, rt.reader())?)?;
-            Ok(Some(text))
+            Some(text)
         }
-        Source::File(path) => read_zone_file(rt, path),
+        Source::File(path) => read_zone_file(rt, path)?,
+    };
+    let Some(text) = read else {
+        return Ok(Err(FAILED));
+    };
+    if serve.is_wide {
+        wide_text_for(rt, serve, text)
+    } else {
+        Ok(Ok(ZoneText::new(text)))
+    }
+}
+
+/// The text of the zone that is served, a zone file as other servers read it. Where it is refused, and the store is chosen, that doesn't look at
+/// more than the apex of a zone: the text is then taken as it is.
+fn wide_text_for<R: Env + Eprint + AllocGlobal>(
+    rt: &R,
+    serve: &Serve<'_>,
+    text: Vec<u8>,
+) -> io::Result<Result<ZoneText, u8>> {
+    match ZoneText::wide(rt.alloc(), text, &serve.origin) {
+        Ok(text) => {
+            tell_left_out(rt, Level::Notice.mark_for(rt), serve.zone, &text)?;
+            Ok(Ok(text))
+        }
+        Err(refused) if is_store_chosen(serve) => Ok(Ok(ZoneText::new(refused.source))),
+        Err(refused) => {
+            let status = tell_zone(rt, refused.source.as_slice(), refused.fault)?;
+            Ok(Err(status))
+        }
+    }
+}
+
+/// Whether there is a store, and it is chosen whatever the zone's text is.
+fn is_store_chosen(serve: &Serve<'_>) -> bool {
+    match serve.store {
+        Some(plan) => plan.taken == Some(Take::Store),
+        None => false,
     }
 }
 
@@ -56,13 +149,13 @@ pub fn text_for<R: Files + Eprint + Input + AllocGlobal>(
 pub fn read_text_for<R: Env + Eprint + AllocGlobal>(
     rt: &R,
     serve: &Serve<'_>,
-    text: Vec<u8>,
+    text: ZoneText,
 ) -> io::Result<Result<StartedZone, u8>>
     ensures { IfOk result (λ r. IfOk r CanStart) }
 {
-    match read_zone(rt.alloc(), text.as_slice(), &serve.origin) {
+    match read_zone(rt.alloc(), text.octets(), &serve.origin) {
         Ok(zone) => Ok(Ok(StartedZone::Zone(zone))),
-        Err(fault) => Ok(Err(tell_zone(rt, text.as_slice(), fault)?)),
+        Err(fault) => Ok(Err(tell_zone(rt, text.shown(), fault)?)),
     }
 }
 
