@@ -3,9 +3,9 @@ ghost use Rattle.std.specs.Prelude.{IfOk};
 ghost use Rattle.dnsd_setup.specs.Starts.{CanStart};
 
 use crate::started_zone::StartedZone;
-use crate::zone_text::ZoneText;
+use crate::zone_text::{RefusedFile, ZoneText};
 use command_line::Serve;
-use commands::{FAILED, Fault, Source, read_zone_text, report_fault, report_fault_of};
+use commands::{FAILED, Fault, Source, read_zone_text, report_fault, report_wide_fault};
 use dns_name::Name;
 use log_lines::Level;
 use master_file::{FileFault, read_zone};
@@ -61,14 +61,26 @@ pub(crate) fn zone_text_from<R: Files + Eprint + AllocGlobal, I: BufRead>(
             Ok(Ok(text))
         }
         Err(refused) => {
-            let mut errors = Vec::new(rt.alloc());
-            let fault = Err(Fault::Zone(refused.fault));
-            let shown = refused.source.as_slice();
-            let status = report_fault_of(rt.alloc(), fault, source, shown, &mut errors);
-            rt.eprint(String::from_utf8_lossy(rt.alloc(), errors.as_slice())?)?;
+            let status = tell_wide(rt, "", source, &refused)?;
             Ok(Err(status))
         }
     }
+}
+
+/// Reports on standard error why a zone file as other servers read it is refused, and returns the program's status.
+fn tell_wide<R: Eprint + AllocGlobal>(
+    rt: &R,
+    mark: &str,
+    source: Source<'_>,
+    refused: &RefusedFile,
+) -> io::Result<u8> {
+    let alloc = rt.alloc();
+    let mut errors = Vec::new(alloc);
+    let shown = refused.source.as_slice();
+    let status = report_wide_fault(alloc, refused.fault, source, shown, &mut errors);
+    rt.eprint(mark)?;
+    rt.eprint(String::from_utf8_lossy(alloc, errors.as_slice())?)?;
+    Ok(status)
 }
 
 /// Reports on standard error how many records are left out of a text, if there are any.
@@ -131,7 +143,7 @@ fn wide_text_for<R: Env + Eprint + AllocGlobal>(
         }
         Err(refused) if is_store_chosen(serve) => Ok(Ok(ZoneText::new(refused.source))),
         Err(refused) => {
-            let status = tell_zone(rt, refused.source.as_slice(), refused.fault)?;
+            let status = tell_wide(rt, Level::Error.mark_for(rt), Source::Input, &refused)?;
             Ok(Err(status))
         }
     }
