@@ -102,7 +102,7 @@ impl Context {
     pub fn pass(&mut self, own: &WideEntry)
         requires in_force { IsInForce self.old }
         requires lawful { IsLawful own.now }
-        ensures { self.new ≡ after_entry self.old own.now }
+        ensures passed { self.new ≡ after_entry self.old own.now }
         ensures in_force { IsInForce self.new }
     {
         match own {

@@ -5,10 +5,10 @@
 #![tactic(auto)]
 
 mod context;
-mod plain_text;
+mod plain;
 mod record_entry;
 mod records;
 
-pub use plain_text::{PlainText, plain_text, read_wide_zone};
+pub use plain::{PlainText, plain_text, read_wide_zone};
 pub use record_entry::{LeftOut, WideEntry};
 pub use records::WideRecords;

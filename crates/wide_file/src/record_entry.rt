@@ -88,9 +88,9 @@ fn read_with_front(
     requires in_force { IsInForce context.now }
     requires folded { owner ≡ fold_name owner }
     requires lasts { IfSome front.ttl (λ ttl. ttl.0 < 2 ^ 31) }
-    ensures entry { IfOk result (λ entry. entry_with context.now line owner (front_seen front) ≡ Ok entry) }
+    ensures entry { IfOk result (λ entry. entry_with context.now line owner (front_seen front.entry) ≡ Ok entry) }
     ensures lawful { IfOk result IsLawful }
-    ensures fault { IfErr result (IsToldOf (entry_with context.now line owner (front_seen front))) }
+    ensures fault { IfErr result (IsToldOf (entry_with context.now line owner (front_seen front.entry))) }
 {
     if is_left_out(front.rtype, front.words)? {
         return Ok(WideEntry::LeftOut(LeftOut {
@@ -113,10 +113,10 @@ fn read_data_of(
     requires in_force { IsInForce context.now }
     requires folded { owner ≡ fold_name owner }
     requires lasts { IfSome front.ttl (λ ttl. ttl.0 < 2 ^ 31) }
-    ensures rr { IfOk result (λ rr. rr_of context.now line owner (front_seen front) ≡ Ok rr) }
+    ensures rr { IfOk result (λ rr. rr_of context.now line owner (front_seen front.entry) ≡ Ok rr) }
     ensures lasts { IfOk result (λ rr. rr.ttl.0 < 2 ^ 31) }
     ensures folded { IfOk result (λ rr. rr.owner ≡ fold_name rr.owner) }
-    ensures fault { IfErr result (IsToldOf (rr_of context.now line owner (front_seen front))) }
+    ensures fault { IfErr result (IsToldOf (rr_of context.now line owner (front_seen front.entry))) }
 {
     let rdata = read_wide_data(alloc, front.rtype, front.words, &context.origin)?;
     let ttl = context.ttl(front.ttl, &rdata)?;
