@@ -5,10 +5,12 @@
 #![tactic(auto)]
 
 mod context;
+mod laws;
 mod plain;
 mod record_entry;
 mod records;
 
+pub use laws::plain_zones_are_wide;
 pub use plain::{PlainText, plain_text, read_wide_zone};
 pub use record_entry::{LeftOut, WideEntry};
 pub use records::WideRecords;
