@@ -21,7 +21,7 @@ pub fn reason(
     push_place(&mut reason, source, fault.line)?;
     let found = seen_at(alloc, fault, text)?;
     if is_by_order_mark(fault, text) {
-        reason.push_str("the file begins with a byte order mark")?;
+        reason.push_str(ORDER_MARK)?;
     } else {
         push_meaning(&mut reason, fault, found.as_ref())?;
     }
@@ -43,7 +43,11 @@ pub fn wide_reason(
 ) -> Result<String, AllocError> {
     let mut reason = String::new(alloc);
     push_place(&mut reason, source, fault.line)?;
-    reason.push_str(wide_reason_of(fault))?;
+    if is_by_order_mark(fault, text) {
+        reason.push_str(ORDER_MARK)?;
+    } else {
+        reason.push_str(wide_reason_of(fault))?;
+    }
     if let Some(found) = seen_at(alloc, fault, text)? {
         reason.push_str(": ")?;
         push_quoted(&mut reason, found.line)?;
@@ -59,6 +63,9 @@ fn push_place(to: &mut String, source: Source<'_>, line: u64) -> Result<(), Allo
         Source::File(path) => write!(to, "{path}:{line}: "),
     }
 }
+
+/// What is said of a text that begins with a byte order mark.
+const ORDER_MARK: &str = "the file begins with a byte order mark";
 
 /// Whether a fault may be caused by a byte order mark at the start of a text, which is read as part of its first word.
 fn is_by_order_mark(fault: FileFault, text: &[u8]) -> bool {
