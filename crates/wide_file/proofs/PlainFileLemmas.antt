@@ -1,9 +1,9 @@
 -- What the plain grammar takes has the same zone as a zone file.
-use Rattle.std.proofs.Common.{◌≡◌, ℕ, ◌<◌, Bool, true, false, cond, not, ◌&&◌, ◌||◌, ◌==◌, bytes_eq, List, [], ◌∷◌, codes, All, Option, Some, None, option_map, Result, Ok, Err, ok_or, refl, sym, ap, ◌∙◌}
+use Rattle.std.proofs.Common.{◌≡◌, ℕ, Bool, true, false, cond, not, ◌&&◌, ◌||◌, ◌==◌, bytes_eq, List, [], ◌∷◌, codes, Option, Some, None, option_map, Result, Ok, Err, ok_or, refl, sym, ap, ◌∙◌}
 use Rattle.std.specs.Option.{option_or}
 use Rattle.std.proofs.lemmas.Bool.Decides.{Decides-eqb}
 use Rattle.std.proofs.lemmas.Slice.Eq.{bytes_eq-Decides}
-use Rattle.dns_name.specs.Name.{Name, IsName}
+use Rattle.dns_name.specs.Name.{Name}
 use Rattle.dns_rdata.specs.Record.{Record}
 use Rattle.dns_rdata.specs.declared.numbers.Ttl.{Ttl}
 use Rattle.record_text.specs.Data.{as_data, data_of_words, form_of, octets_of_words}
@@ -17,8 +17,6 @@ use Rattle.record_text.specs.declared.cause.Cause.{Cause}
 use Rattle.record_text.specs.declared.cause.Cause.TheVariants.{Directive, NoTtl}
 use Rattle.zone_lexing.specs.Entries.{Entry, entries_of}
 use Rattle.zone_lexing.specs.Word.{Written}
-use Rattle.zone_lexing.proofs.EntryLemmas.{AreInOrder-of}
-use Rattle.zone_lexing.proofs.SpellingLemmas.{lines-read}
 use Rattle.master_file.specs.Records as plain
 use Rattle.master_file.specs.Records.{Read, alone, argument_of, directive_of, fault_at, records_of, words_of}
 use Rattle.master_file.specs.ZoneText.{zone_of_read, zone_of_text}
@@ -26,19 +24,18 @@ use Rattle.master_file.specs.declared.context.Context as declared
 use Rattle.master_file.specs.declared.fault.FileFault.{FileFault}
 use Rattle.master_file.specs.declared.record_entry.RecordEntry.{RecordEntry}
 use Rattle.master_file.proofs.IsZoneLemmas.{read_whole}
-use Rattle.master_file.proofs.ReadableLemmas.{records_readable}
 use Rattle.wide_text.specs.Front.{wide_front}
 use Rattle.wide_text.specs.Signing.{all_closed, is_signing, left_out}
 use Rattle.wide_text.specs.Mnemonics.{type_RRSIG, type_NSEC, type_NSEC3, type_NSEC3PARAM}
 use Rattle.wide_text.specs.Times.{ttl_of}
 use Rattle.wide_text.proofs.PlainFront.{plain_front_is_wide}
 use Rattle.wide_text.proofs.PlainLemmas.{number_is_time, plain_data_is_wide, read_first, read_on}
-use Rattle.wide_file.specs.PlainText.{spelled_after, wide_zone, zone_of_spelled}
-use Rattle.wide_file.specs.WideRecords.{WideRead, after_entry, directed, entry_of, entry_with, faulty, in_front, judged, minimum_ttl, owned_of, records_from, rr_of, ttl_in}
+use Rattle.wide_file.specs.WideZone.{kept, wide_zone, zone_of_wide}
+use Rattle.wide_file.specs.WideRecords.{WideRead, after_entry, directed, entry_of, entry_with, in_front, judged, minimum_ttl, owned_of, records_from, rr_of, ttl_in}
 use Rattle.wide_file.specs.declared.context.Context.{Context}
 use Rattle.wide_file.specs.declared.record_entry.WideEntry.{WideEntry}
 use Rattle.wide_file.specs.declared.record_entry.WideEntry.TheVariants as entry
-use Rattle.wide_file.proofs.TextBackLemmas.{all_spelt, as_entries, read_back, records_below, text_is, text_lines}
+use Rattle.wide_file.proofs.TextBackLemmas.{wide_then}
 
 -- what is in force, alike
 abbrev widen : declared.Context → Context
@@ -174,14 +171,16 @@ judged_by context line indented words None pair e =
 judged_widens : (context : declared.Context) (line : ℕ) (indented : Bool) (words : List Written) (pair : declared.Context × Option RecordEntry) → plain.judged context line indented words ≡ Ok pair → judged (widen context) line indented words ≡ Ok (widened pair)
 judged_widens context line indented words pair e = judged_by context line indented words (directive_of indented words) pair e
 
--- all records of a text
-abbrev then : ℕ → Option ℕ → List Entry → Result (Context × Option WideEntry) Cause → WideRead
-then line unclosed entries r = elim r [
-  | Err cause ↦ faulty (fault_at line unclosed cause)
-  | Ok (next, None) ↦ records_from next entries
-  | Ok (next, Some own) ↦ in_front own (records_from next entries)
-]
+-- records as entries
+abbrev as_entries : List RecordEntry → List WideEntry
+as_entries [] = []
+as_entries (rr ∷ rrs) = entry.Record rr ∷ as_entries rrs
 
+all_kept : (rrs : List RecordEntry) → kept (as_entries rrs) ≡ rrs
+all_kept [] = refl
+all_kept (rr ∷ rrs) = ap (λ (ps : List RecordEntry). rr ∷ ps) (all_kept rrs)
+
+-- all records of a text
 abbrev plain_then : ℕ → Option ℕ → List Entry → Result (declared.Context × Option RecordEntry) Cause → Read
 plain_then line unclosed entries r = elim r [
   | Err cause ↦ plain.faulty (fault_at line unclosed cause)
@@ -195,10 +194,10 @@ all_of read = record { entries = as_entries read.rrs; fault = None }
 then_widens : (line : ℕ) (unclosed : Option ℕ) (entries : List Entry) (r : Result (declared.Context × Option RecordEntry) Cause) (s : Result (Context × Option WideEntry) Cause)
     → ((pair : declared.Context × Option RecordEntry) → r ≡ Ok pair → s ≡ Ok (widened pair))
     → ((next : declared.Context) → (plain.records_from next entries).fault ≡ None → records_from (widen next) entries ≡ all_of (plain.records_from next entries))
-    → (plain_then line unclosed entries r).fault ≡ None → then line unclosed entries s ≡ all_of (plain_then line unclosed entries r)
+    → (plain_then line unclosed entries r).fault ≡ None → wide_then line unclosed entries s ≡ all_of (plain_then line unclosed entries r)
 then_widens line unclosed entries (Err cause) s alike more none = cc
-then_widens line unclosed entries (Ok (next, None)) s alike more none = ap (then line unclosed entries) (alike (next, None) refl) ∙ more next none
-then_widens line unclosed entries (Ok (next, Some rr)) s alike more none = ap (then line unclosed entries) (alike (next, Some rr) refl) ∙ ap (in_front (entry.Record rr)) (more next none)
+then_widens line unclosed entries (Ok (next, None)) s alike more none = ap (wide_then line unclosed entries) (alike (next, None) refl) ∙ more next none
+then_widens line unclosed entries (Ok (next, Some rr)) s alike more none = ap (wide_then line unclosed entries) (alike (next, Some rr) refl) ∙ ap (in_front (entry.Record rr)) (more next none)
 
 all_widen : (context : declared.Context) (entries : List Entry) → (plain.records_from context entries).fault ≡ None → records_from (widen context) entries ≡ all_of (plain.records_from context entries)
 all_widen context [] none = refl
@@ -210,14 +209,10 @@ all_widen context (first ∷ entries) none =
 same_read : (read : Read) (zone : List Record) → read.fault ≡ None → zone_of_read read ≡ Ok zone → zone_of_read (record { rrs = read.rrs; fault = None }) ≡ Ok zone
 same_read read zone none e = ap (λ (f : Option FileFault). zone_of_read (record { rrs = read.rrs; fault = f })) (sym none) ∙ e
 
-pub plain_zone_is_wide : (origin : Name) (text : List ℕ) (zone : List Record) → IsName origin → All (All (λ (octet : ℕ). octet < 256)) origin → All (λ (octet : ℕ). octet < 256) text → zone_of_text origin text ≡ Ok zone → wide_zone origin text ≡ Ok zone
-plain_zone_is_wide origin text zone is octets small e =
+pub plain_zone_is_wide : (origin : Name) (text : List ℕ) (zone : List Record) → zone_of_text origin text ≡ Ok zone → wide_zone origin text ≡ Ok zone
+plain_zone_is_wide origin text zone e =
     let read = records_of origin text in
     let none = read_whole read zone e in
-    let readable = records_readable origin text is octets small in
-    let below = records_below (plain.start origin) 0 (entries_of text) (AreInOrder-of text) in
-    ap (λ (r : WideRead). zone_of_spelled (spelled_after [] 0 [] r)) (all_widen (plain.start origin) (entries_of text) none)
-    ∙ ap (λ (t : List ℕ). zone_of_text [] t) (text_is 0 read.rrs)
-    ∙ ap (λ (es : List Entry). zone_of_read (plain.records_from (plain.start []) es)) (lines-read (text_lines 0 read.rrs) 1 (all_spelt 0 read.rrs readable))
-    ∙ ap zone_of_read (read_back (plain.start []) 0 read.rrs readable below)
+    ap zone_of_wide (all_widen (plain.start origin) (entries_of text) none)
+    ∙ ap (λ (rrs : List RecordEntry). zone_of_read (record { rrs = rrs; fault = None })) (all_kept read.rrs)
     ∙ same_read read zone none e

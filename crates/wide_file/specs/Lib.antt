@@ -1,3 +1,4 @@
 pub mod Laws
 pub mod PlainText
 pub mod WideRecords
+pub mod WideZone

@@ -1,9 +1,8 @@
--- A zone file as plain text, each record on the line of its entry, and the zone of that.
-use Rattle.std.specs.Prelude.{ℕ, suc, zero, ◌-◌, List, [], ◌∷◌, ◌++◌, Option, Some, None, Result, Err}
+-- A zone file as plain text, each record on the line of its entry.
+use Rattle.std.specs.Prelude.{ℕ, suc, zero, ◌-◌, List, [], ◌∷◌, ◌++◌, Option}
 use Rattle.dns_name.specs.Name.{Name}
-use Rattle.dns_rdata.specs.Record.{Record}
 use Rattle.master_file.specs.WrittenZone.{record_line}
-use Rattle.master_file.specs.ZoneText.{record_in, zone_of_text}
+use Rattle.master_file.specs.ZoneText.{record_in}
 use Rattle.master_file.specs.declared.fault.FileFault.{FileFault}
 use Rattle.wide_file.specs.WideRecords.{WideRead, wide_records}
 use Rattle.wide_file.specs.declared.record_entry.WideEntry.{WideEntry}
@@ -40,11 +39,3 @@ spelled_after text line left_out read =
 -- a zone file as plain text
 abbrev pub spelled : Name → List ℕ → Spelled
 spelled origin text = spelled_after [] 0 [] (wide_records origin text)
-
--- the zone of a plain text: a fault of an entry is reported before one of the zone (own)
-abbrev pub zone_of_spelled : Spelled → Result (List Record) FileFault
-zone_of_spelled spelled = elim spelled.fault [ Some fault ↦ Err fault | None ↦ zone_of_text [] spelled.text ]
-
--- the zone of a zone file
-abbrev pub wide_zone : Name → List ℕ → Result (List Record) FileFault
-wide_zone origin text = zone_of_spelled (spelled origin text)

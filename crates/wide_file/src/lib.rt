@@ -1,5 +1,5 @@
 //! Zone files as they are in use (RFC 1035, 5): the words of many types, times with units, directives in any case. A file is rewritten as plain text,
-//! each record on the line on which it begins, and the zone is that of the plain text. Records that signers make are left out.
+//! each record on the line on which it begins, and the zone is read from that. Records that signers make are left out.
 //!
 //! Contracts see what isn't read yet of a file as a list of records, up to the first fault, and that fault.
 #![tactic(auto)]
