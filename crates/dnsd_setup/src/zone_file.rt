@@ -129,8 +129,8 @@ pub fn text_for<R: Env + Files + Eprint + Input + AllocGlobal>(
     }
 }
 
-/// The text of the zone that is served, a zone file as other servers read it. Where it is refused, and the store is chosen, that doesn't look at
-/// more than the apex of a zone: the text is then taken as it is.
+/// The text of the zone that is served, a zone file as other servers read it. Where it is refused, but the store is chosen, the text is taken as it
+/// is: it is no zone either, and the store is served.
 fn wide_text_for<R: Env + Eprint + AllocGlobal>(
     rt: &R,
     serve: &Serve<'_>,
@@ -141,8 +141,11 @@ fn wide_text_for<R: Env + Eprint + AllocGlobal>(
             tell_left_out(rt, Level::Notice.mark_for(rt), serve.zone, &text)?;
             Ok(Ok(text))
         }
-        Err(refused) if is_store_chosen(serve) => Ok(Ok(ZoneText::new(refused.source))),
         Err(refused) => {
+            if is_store_chosen(serve) {
+                let RefusedFile { source, fault: _ } = refused;
+                return Ok(Ok(ZoneText::new(source)));
+            }
             let status = tell_wide(rt, Level::Error.mark_for(rt), Source::Input, &refused)?;
             Ok(Err(status))
         }

@@ -61,9 +61,9 @@ impl ZoneText {
 
     /// The lines of the records that are left out.
     pub(crate) fn left_out(&self) -> &[u64] {
-        match &self.plain {
-            Some(plain) => plain.left_out.as_slice(),
-            None => &[],
-        }
+        let Some(plain) = &self.plain else {
+            return &[];
+        };
+        plain.left_out.as_slice()
     }
 }
