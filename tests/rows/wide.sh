@@ -106,6 +106,7 @@ g CERT PKIX 0 RSASHA256 AQID
 h OPENPGPKEY AQIDBA==
 i RP A B.
 j DNAME Example.NET.
+k EUI48 00-00-5e-00-53-2a
 =>
 x. 5 IN SOA a.x. b.x. 1 2 3 4 5
 x. 5 IN NS a.x.
@@ -120,6 +121,7 @@ g.x. 5 IN TYPE37 \# 8 0001000008010203
 h.x. 5 IN TYPE61 \# 4 01020304
 i.x. 5 IN TYPE17 \# 8 0141017800014200
 j.x. 5 IN TYPE39 \# 13 074578616d706c65034e455400
+k.x. 5 IN TYPE108 \# 6 00005e00532a
 end
 
 # no TTL is in force: an SOA's MINIMUM is its TTL, and that of the records after it; of another type there is none

@@ -7,7 +7,7 @@ use wide_text::{read_wide_data, read_wide_front, seconds, write_wide_data, write
 use zone_lexing::{Entries, Word};
 
 /// What stands after an owner, and the data (RFC 4034, 5.4; RFC 8659, 4.1; RFC 7553, 4; RFC 4701, 3.6, and other examples).
-const RECORDS: [(&str, &str); 18] = [
+const RECORDS: [(&str, &str); 20] = [
     ("HINFO \"INTEL-386\" UNIX", "09494e54454c2d33383604554e4958"),
     (
         "CAA 0 issue \"letsencrypt.org\"",
@@ -45,6 +45,8 @@ const RECORDS: [(&str, &str); 18] = [
         "0301010123456789abcdef0123456789abcdef0123456789abcdef0123456789abcdef",
     ),
     ("SSHFP 4 2 0 1 23", "04020123"),
+    ("EUI48 00-00-5e-00-53-2a", "00005e00532a"),
+    ("EUI64 00-00-5E-ef-10-00-00-2A", "00005eef1000002a"),
     ("DNSKEY 256 3 5 AQPS", "0100030501 03d2"),
     ("DNAME Example.NET.", "074578616d706c65034e455400"),
     ("AFSDB 1 a.", "0001016100"),
@@ -56,7 +58,7 @@ const RECORDS: [(&str, &str); 18] = [
 ];
 
 /// What is refused, and how.
-const REFUSED: [(&str, Cause); 12] = [
+const REFUSED: [(&str, Cause); 16] = [
     ("CAA 256 issue \"a\"", Cause::Number),
     ("CAA 0 \"issue\" \"a\"", Cause::BadData),
     ("CAA 0 is-sue \"a\"", Cause::BadData),
@@ -67,6 +69,10 @@ const REFUSED: [(&str, Cause); 12] = [
     ("OPENPGPKEY AQIDBA", Cause::BadData),
     ("DS 1 RSA 1 00", Cause::Number),
     ("URI 1h 1 \"a\"", Cause::Number),
+    ("EUI48 00-00-5e-00-53", Cause::BadData),
+    ("EUI48 00-00-5e-00-53-2a-00", Cause::BadData),
+    ("EUI48 00:00:5e:00:53:2a", Cause::BadData),
+    ("EUI64 \"00-00-5e-ef-10-00-00-2a\"", Cause::BadData),
     ("SOA a. b. 1h 1 1 1 1", Cause::Number),
     ("TYPE257 0 issue", Cause::BadData),
 ];

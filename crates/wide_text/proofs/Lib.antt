@@ -1,3 +1,4 @@
+pub mod EuiLemmas
 pub mod FieldLemmas
 pub mod PlainFront
 pub mod PlainLemmas

@@ -8,8 +8,6 @@ use Rattle.base64.specs.GeneralPurpose.{encode_of}
 use Rattle.base64.specs.declared.DecodeError.{DecodeError}
 use Rattle.base64.proofs.EngineFacts.{decode_of-encode_of}
 use Rattle.hex.specs.Hex.{encode_lower}
-use Rattle.hex.specs.declared.error.FromHexError.{FromHexError}
-use Rattle.hex.proofs.HexLemmas.{decode_of-encode_lower}
 use Rattle.dns_rdata.specs.Data.{are_strings, data_of}
 use Rattle.dns_rdata.specs.Layout.{layout_of}
 use Rattle.dns_rdata.proofs.NameLemmas.{cond_some}
@@ -27,6 +25,7 @@ use Rattle.wide_text.specs.Words.{word_at, rest_words, words_by}
 use Rattle.wide_text.specs.declared.forms.Field.{Field}
 use Rattle.wide_text.specs.declared.forms.Rest.{Rest}
 use Rattle.wide_text.specs.declared.forms.Rest.TheVariants as rest
+use Rattle.wide_text.proofs.EuiLemmas.{are_bytes, hex_back}
 use Rattle.wide_text.proofs.WordLemmas.{IsBack, word_back}
 use Rattle.zone_lexing.specs.Word.{Written}
 use Rattle.zone_lexing.specs.Word.Written.{Plain}
@@ -42,16 +41,6 @@ no_octets octets e = nil_from_length octets ((Decides-eqb (length octets) 0).0 e
 nothing_by : (octets : List ℕ) (b : Bool) → (length octets == 0) ≡ b → IsRestBack rest.Nothing octets (cond b (Some []) None)
 nothing_by octets true e = ap Ok (sym (no_octets octets e))
 nothing_by octets false e = tt
-
-are_bytes : (octets : List ℕ) → AreOctets octets → (i : ℕ) → slice_index octets i < 256
-are_bytes [] h i = omega arith
-are_bytes (octet ∷ octets) h zero = All-head (λ (c : ℕ). c < 256) octet octets h
-are_bytes (octet ∷ octets) h (suc i) = are_bytes octets (All-tail (λ (c : ℕ). c < 256) octet octets h) i
-
-hex_back : (octets : List ℕ) → AreOctets octets → hex_in (encode_lower octets) ≡ Ok octets
-unfolding hex_in
-hex_back octets h =
-    ap (λ (r : Result (List ℕ) FromHexError). elim r as (λ _. Result (List ℕ) Cause) [ Ok own ↦ Ok own | Err fault ↦ Err BadData ]) (decode_of-encode_lower octets (are_bytes octets h))
 
 base64_back : (octets : List ℕ) → AreOctets octets → base64_in (encode_of standard octets) ≡ Ok octets
 unfolding base64_in

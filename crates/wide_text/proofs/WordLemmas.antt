@@ -19,9 +19,10 @@ use Rattle.record_text.proofs.FieldLemmas.{name_read}
 use Rattle.record_text.proofs.StringLemmas.{string_some}
 use Rattle.wide_text.specs.Fields.{field_of}
 use Rattle.wide_text.specs.Texts.{is_tag}
-use Rattle.wide_text.specs.Words.{octet_at, short_at, long_at, string_at, tag_at, quoted, word_at}
+use Rattle.wide_text.specs.Words.{octet_at, short_at, long_at, string_at, tag_at, quoted, pairs, word_at}
 use Rattle.wide_text.specs.declared.forms.Field.{Field}
 use Rattle.wide_text.specs.declared.forms.Field.TheVariants as field
+use Rattle.wide_text.proofs.EuiLemmas.{taken_back}
 use Rattle.wide_text.proofs.QuoteLemmas.{unescaped_back}
 use Rattle.zone_lexing.specs.Word.{Written}
 use Rattle.zone_lexing.specs.Word.Written.{Plain}
@@ -207,6 +208,14 @@ name_by octets (Some name) h e =
 name_back : (octets : List ℕ) → AreOctets octets → IsBack field.Name octets (option_map (λ (name : List (List ℕ)). (Plain (text_of name), length (wire_of name))) (name_in octets))
 name_back octets h = name_by octets (name_in octets) h refl
 
+eui48_by : (octets : List ℕ) (b : Bool) → nat_le 6 (length octets) ≡ b → AreOctets octets → IsBack field.Eui48 octets (cond b (Some (Plain (pairs (take 6 octets)), 6)) None)
+eui48_by octets true e h = λ origin. taken_back 6 octets (omega arith) h e
+eui48_by octets false e h = tt
+
+eui64_by : (octets : List ℕ) (b : Bool) → nat_le 8 (length octets) ≡ b → AreOctets octets → IsBack field.Eui64 octets (cond b (Some (Plain (pairs (take 8 octets)), 8)) None)
+eui64_by octets true e h = λ origin. taken_back 8 octets (omega arith) h e
+eui64_by octets false e h = tt
+
 -- each field
 pub word_back : (f : Field) (octets : List ℕ) → AreOctets octets → IsBack f octets (word_at f octets)
 unfolding word_at
@@ -220,3 +229,5 @@ word_back field.Tag octets h = tag_back octets
 word_back field.Text octets h = text_back octets h
 word_back field.Algorithm octets h = algorithm_back octets h
 word_back field.CertType octets h = certificate_back octets h
+word_back field.Eui48 octets h = eui48_by octets (nat_le 6 (length octets)) refl h
+word_back field.Eui64 octets h = eui64_by octets (nat_le 8 (length octets)) refl h

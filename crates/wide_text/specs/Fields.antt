@@ -9,7 +9,7 @@ use Rattle.record_text.specs.Reading.{on_ok, and_then}
 use Rattle.record_text.specs.Strings.{string_of}
 use Rattle.record_text.specs.declared.cause.Cause.{Cause}
 use Rattle.record_text.specs.declared.cause.Cause.TheVariants.{BadData}
-use Rattle.wide_text.specs.Encoded.{hex_of, base64_words}
+use Rattle.wide_text.specs.Encoded.{hex_of, base64_words, eui_of}
 use Rattle.wide_text.specs.Mnemonics.{named_of, algorithms, certificate_types}
 use Rattle.wide_text.specs.Texts.{text_of, tag_of}
 use Rattle.wide_text.specs.Times.{seconds_of}
@@ -30,6 +30,8 @@ field_of origin field.String word = string_of word
 field_of origin field.Tag word = tag_of word
 field_of origin field.Text word = text_of word
 field_of origin field.Algorithm word = on_ok (λ number. number ∷ []) (named_of 255 algorithms word)
+field_of origin field.Eui48 word = eui_of 6 word
+field_of origin field.Eui64 word = eui_of 8 word
 field_of origin field.CertType word = on_ok (to_be_bytes w16) (named_of 65535 certificate_types word)
 
 -- that no word is left

@@ -57,6 +57,9 @@ forms =
     ∷ record { word = codes "OPENPGPKEY"; rtype = 61; fields = []; rest = rest.Base64 }
     -- RFC 4408, 3.1.1
     ∷ record { word = codes "SPF"; rtype = 99; fields = []; rest = rest.Strings }
+    -- RFC 7043, 3.2 and 4.2
+    ∷ record { word = codes "EUI48"; rtype = 108; fields = field.Eui48 ∷ []; rest = rest.Nothing }
+    ∷ record { word = codes "EUI64"; rtype = 109; fields = field.Eui64 ∷ []; rest = rest.Nothing }
     -- RFC 7553, 4
     ∷ record { word = codes "URI"; rtype = 256; fields = field.Short ∷ field.Short ∷ field.Text ∷ []; rest = rest.Nothing }
     -- RFC 8659, 4.1

@@ -1,5 +1,5 @@
 -- Data as words of its form (RFC 1035, 5.1).
-use Rattle.std.specs.Prelude.{ℕ, ◌+◌, ◌&&◌, ◌==◌, List, [], ◌∷◌, length, take, drop, flat_map, nat_le, decimal, if◌then◌else◌, Option, Some, None, option_map, option_and_then, unwrap_or, Ok, Err}
+use Rattle.std.specs.Prelude.{ℕ, ◌+◌, ◌&&◌, ◌==◌, List, [], ◌∷◌, ◌++◌, length, take, drop, flat_map, nat_le, decimal, if◌then◌else◌, Option, Some, None, option_map, option_and_then, unwrap_or, Ok, Err}
 use Rattle.std.specs.Int.{from_be_bytes, w16, w32}
 use Rattle.base64.specs.Engines.{standard}
 use Rattle.base64.specs.GeneralPurpose.{encode_of}
@@ -46,6 +46,18 @@ abbrev pub long_at : List ℕ → Option (Written × ℕ)
 long_at (a ∷ b ∷ c ∷ d ∷ octets) = Some (Plain (decimal (from_be_bytes w32 (a ∷ b ∷ c ∷ d ∷ []))), 4)
 long_at _ = None
 
+-- the identifier of so many octets, and what stands after its first pair of digits
+abbrev pub more_pairs : List ℕ → List ℕ
+more_pairs [] = []
+more_pairs (o ∷ octets) = 45 ∷ encode_lower (o ∷ []) ++ more_pairs octets
+
+abbrev pub pairs : List ℕ → List ℕ
+pairs [] = []
+pairs (o ∷ octets) = encode_lower (o ∷ []) ++ more_pairs octets
+
+abbrev pub eui_at : ℕ → List ℕ → Option (Written × ℕ)
+eui_at count octets = if nat_le count (length octets) then Some (Plain (pairs (take count octets)), count) else None
+
 -- the field that octets begin with as a word, and how many octets it takes; none where they begin with no such field. Names stand whole with a
 -- final dot, algorithms and certificates' types by their numbers, and a text is all the octets that are left
 unfoldable pub word_at : Field → List ℕ → Option (Written × ℕ)
@@ -59,6 +71,8 @@ word_at field.Tag octets = tag_at octets
 word_at field.Text octets = Some (quoted octets, length octets)
 word_at field.Algorithm octets = octet_at octets
 word_at field.CertType octets = short_at octets
+word_at field.Eui48 octets = eui_at 6 octets
+word_at field.Eui64 octets = eui_at 8 octets
 
 -- the words of the octets after the fields; none where they are no such words
 unfoldable pub rest_words : Rest → List ℕ → Option (List Written)

@@ -1,8 +1,8 @@
 //! Octets in hexadecimal and in base64 (RFC 4648, 4 and 8).
-ghost use Rattle.std.specs.Prelude.{◌≡◌, Ok, Err, OnOk, IfOk, IfErr, map};
+ghost use Rattle.std.specs.Prelude.{◌≡◌, ◌≤◌, Ok, Err, OnOk, IfOk, IfErr, map};
 ghost use Rattle.record_text.specs.Data.{IsToldOf};
 ghost use Rattle.record_text.specs.Private.{ReadsBehind};
-ghost use Rattle.wide_text.specs.Encoded.{bare_of, base64_in, base64_words, hex_in, hex_of, joined, some_joined};
+ghost use Rattle.wide_text.specs.Encoded.{bare_of, base64_in, base64_words, eui_digits, eui_in, eui_of, hex_in, hex_of, joined, some_joined};
 ghost use Rattle.zone_lexing.specs.Word.{written};
 
 use base64::DecodeAllocError;
@@ -42,6 +42,56 @@ pub(crate) fn put_base64(
     let own = base64_in(alloc, &text)?;
     octets.extend_from_slice(&own)?;
     Ok(())
+}
+
+/// Puts the identifier of so many octets that a word is after the others: pairs of hexadecimal digits with hyphens between (RFC 7043, 3.2 and 4.2).
+///
+/// `BadData` at another word, at a quoted string too; `Unclosed` where no word stands; `NoMemory` where a growth was refused.
+pub(crate) fn put_eui(
+    alloc: Global,
+    octets: &mut Vec<u8>,
+    word: Word<'_>,
+    count: usize,
+) -> Result<(), Cause>
+    requires { count ≤ 8 }
+    ensures put { OnOk result (ReadsBehind (eui_of count (written word.entry)) octets.old.items octets.new.items) }
+    ensures fault { IfErr result (IsToldOf (eui_of count (written word.entry))) }
+{
+    let text = bare(word)?;
+    let own = eui_in(alloc, text, count)?;
+    octets.extend_from_slice(&own)?;
+    Ok(())
+}
+
+/// The identifier of so many octets that a text is.
+fn eui_in(alloc: Global, text: &[u8], count: usize) -> Result<Vec<u8>, Cause>
+    requires { count ≤ 8 }
+    ensures octets { IfOk result (λ own. eui_in count text.now ≡ Ok own.items) }
+    ensures fault { IfErr result (IsToldOf (eui_in count text.now)) }
+{
+    let digits = eui_digits(alloc, text)?;
+    if digits.len() != count * 2 {
+        return Err(Cause::BadData);
+    }
+    hex_in(alloc, &digits)
+}
+
+/// The digits of pairs with hyphens between.
+fn eui_digits(alloc: Global, text: &[u8]) -> Result<Vec<u8>, Cause>
+    ensures digits { IfOk result (λ own. eui_digits text.now ≡ Ok own.items) }
+    ensures fault { IfErr result (IsToldOf (eui_digits text.now)) }
+{
+    let mut digits = Vec::new(alloc);
+    let mut rest = text;
+    while let [a, b, b'-', after @ ..] = rest {
+        digits.extend_from_slice(&[*a, *b])?;
+        rest = after;
+    }
+    let [a, b] = rest else {
+        return Err(Cause::BadData);
+    };
+    digits.extend_from_slice(&[*a, *b])?;
+    Ok(digits)
 }
 
 /// The octets that a text is in hexadecimal; `BadData` where it is none.

@@ -6,7 +6,7 @@ ghost use Rattle.record_text.specs.Private.{ReadsBehind};
 ghost use Rattle.wide_text.specs.Fields.{field_of, fields_of, nothing_of, rest_of};
 ghost use Rattle.zone_lexing.specs.Word.{written};
 
-use crate::encoded::{put_base64, put_hex};
+use crate::encoded::{put_base64, put_eui, put_hex};
 use crate::forms::{Field, Rest};
 use crate::mnemonics::{all_algorithms, all_certificate_types, named};
 use crate::texts::{put_string, put_strings, put_tag, put_text};
@@ -61,6 +61,8 @@ fn put_field(
         Field::Tag => put_tag(octets, word)?,
         Field::Text => put_text(alloc, octets, word)?,
         Field::Algorithm => put_octet(octets, named(word, 255, all_algorithms())?)?,
+        Field::Eui48 => put_eui(alloc, octets, word, 6)?,
+        Field::Eui64 => put_eui(alloc, octets, word, 8)?,
         Field::CertType => put_short(octets, named(word, 65_535, all_certificate_types())?)?,
     }
     Ok(())

@@ -34,6 +34,10 @@ pub enum Field {
     Algorithm,
     /// A certificate's type, by its number or its word (RFC 4398, 2.1).
     CertType,
+    /// An identifier of six octets, in pairs of hexadecimal digits with hyphens between (RFC 7043, 3.2).
+    Eui48,
+    /// One of eight octets (RFC 7043, 4.2).
+    Eui64,
 }
 
 /// What the words after the fields are.
@@ -63,7 +67,7 @@ pub struct Form {
 }
 
 /// The table.
-const FORMS: [Form; 20] = [
+const FORMS: [Form; 22] = [
     Form {
         word: "SOA",
         rtype: 6,
@@ -186,6 +190,18 @@ const FORMS: [Form; 20] = [
         rtype: 99,
         fields: &[],
         rest: Rest::Strings,
+    },
+    Form {
+        word: "EUI48",
+        rtype: 108,
+        fields: &[Field::Eui48],
+        rest: Rest::Nothing,
+    },
+    Form {
+        word: "EUI64",
+        rtype: 109,
+        fields: &[Field::Eui64],
+        rest: Rest::Nothing,
     },
     Form {
         word: "URI",

@@ -5,7 +5,7 @@ ghost use Rattle.std.specs.Char.{is_ascii_alphanumeric};
 ghost use Rattle.record_text.specs.Text.{as_text, string_octet, text_of_words};
 ghost use Rattle.wide_text.specs.declared.forms.Rest.TheVariants as rest;
 ghost use Rattle.wide_text.specs.Private.{WritesWord, WritesWords};
-ghost use Rattle.wide_text.specs.Words.{long_at, octet_at, quoted, rest_words, short_at, string_at, tag_at, wide_type_word, wide_words, word_at, words_by};
+ghost use Rattle.wide_text.specs.Words.{eui_at, long_at, more_pairs, octet_at, pairs, quoted, rest_words, short_at, string_at, tag_at, wide_type_word, wide_words, word_at, words_by};
 
 use crate::forms::{Field, Rest, form_of};
 use crate::texts::is_tag;
@@ -59,7 +59,7 @@ fn write_words(
 {
     let mut left = octets;
     for field in fields {
-        let Some(len) = write_field(text, *field, left)? else {
+        let Some(len) = write_field(alloc, text, *field, left)? else {
             return Ok(false);
         };
         left = &left[len..];
@@ -69,7 +69,12 @@ fn write_words(
 
 /// Writes the field that octets begin with after a space, and returns how many octets it takes; None where they begin with no such field.
 #[tactic(auto, unfolding(crate::specs::Words::word_at))]
-fn write_field(text: &mut String, field: Field, octets: &[u8]) -> Result<Option<usize>, AllocError>
+fn write_field(
+    alloc: Global,
+    text: &mut String,
+    field: Field,
+    octets: &[u8],
+) -> Result<Option<usize>, AllocError>
     ensures word { IfOk result (WritesWord (word_at field octets.now) (string_bytes text.old) (string_bytes text.new)) }
     ensures within { IfOk result (λ len. IfSome len (λ n. n ≤ length octets.now)) }
 {
@@ -86,6 +91,8 @@ fn write_field(text: &mut String, field: Field, octets: &[u8]) -> Result<Option<
         Field::Long | Field::Time => write_long(text, octets),
         Field::String => write_string(text, octets),
         Field::Tag => write_tag(text, octets),
+        Field::Eui48 => write_eui(alloc, text, octets, 6),
+        Field::Eui64 => write_eui(alloc, text, octets, 8),
         Field::Text => {
             write_quoted(text, octets)?;
             Ok(Some(octets.len()))
@@ -162,6 +169,46 @@ fn write_tag(text: &mut String, octets: &[u8]) -> Result<Option<usize>, AllocErr
     text.push(' ')?;
     write_letters(text, &after[..len])?;
     Ok(Some(len + 1))
+}
+
+/// Writes the identifier of so many octets that octets begin with.
+fn write_eui(
+    alloc: Global,
+    text: &mut String,
+    octets: &[u8],
+    count: usize,
+) -> Result<Option<usize>, AllocError>
+    ensures word { IfOk result (WritesWord (eui_at count octets.now) (string_bytes text.old) (string_bytes text.new)) }
+    ensures within { IfOk result (λ len. IfSome len (λ n. n ≤ length octets.now)) }
+{
+    if count > octets.len() {
+        return Ok(None);
+    }
+    text.push(' ')?;
+    write_pairs(alloc, text, &octets[..count])?;
+    Ok(Some(count))
+}
+
+/// Writes octets as pairs of hexadecimal digits with hyphens between.
+fn write_pairs(alloc: Global, text: &mut String, octets: &[u8]) -> Result<(), AllocError>
+    ensures { OnOk result (string_bytes text.new ≡ string_bytes text.old ++ pairs octets.now) }
+{
+    let [first, after @ ..] = octets else {
+        return Ok(());
+    };
+    text.push_str(&hex::encode(alloc, &[*first])?)?;
+    write_more_pairs(alloc, text, after)
+}
+
+/// Writes octets as pairs of hexadecimal digits, each after a hyphen.
+fn write_more_pairs(alloc: Global, text: &mut String, octets: &[u8]) -> Result<(), AllocError>
+    ensures { OnOk result (string_bytes text.new ≡ string_bytes text.old ++ more_pairs octets.now) }
+{
+    for octet in octets {
+        text.push('-')?;
+        text.push_str(&hex::encode(alloc, &[*octet])?)?;
+    }
+    Ok(())
 }
 
 /// Writes letters and digits.
