@@ -78,6 +78,7 @@ x. CAA 0 issue "a" "b" => M6 BadData
 x. TLSA 3 1 1 012 => M6 BadData
 x. OPENPGPKEY AQIDBA => M6 BadData
 x. DS 1 RSA 1 00 => M3 Number
+x. HTTPS 1 . port=53 alpn=h2 => M6 BadData
 x. LOC 52 22 23.000 N 4 53 32.000 E 0m => M5 UnknownType
 x. AAA 192.0.2.1 => M5 UnknownType
 $INCLUDE other => M1 Directive
@@ -90,7 +91,7 @@ says 1 'line 4: M5 UnknownType
 a type is due, by a name that is known here or by its number: `x. 1h CAAA 0 issue "a"`' check --wide -
 
 # words of types (RFC 1035, 3.3.2; RFC 1183; RFC 3403, 4; RFC 4398, 2; RFC 4034, 5.4; RFC 4255, 3; RFC 4701, 3.6; RFC 6698, 2.2; RFC 7344, 3; RFC 7553, 4;
-# RFC 7929, 2.3; RFC 8659, 4.1), as BIND's named-rrchecker has their data
+# RFC 7929, 2.3; RFC 8659, 4.1; RFC 9460, 2.1), as BIND's named-rrchecker has their data
 wide '' --origin x. <<'end'
 $TTL 5
 @ SOA a b 1 2 3 4 5
@@ -107,6 +108,7 @@ h OPENPGPKEY AQIDBA==
 i RP A B.
 j DNAME Example.NET.
 k EUI48 00-00-5e-00-53-2a
+l HTTPS 1 . alpn="h2,h3" ipv4hint=192.0.2.3
 =>
 x. 5 IN SOA a.x. b.x. 1 2 3 4 5
 x. 5 IN NS a.x.
@@ -122,6 +124,7 @@ h.x. 5 IN TYPE61 \# 4 01020304
 i.x. 5 IN TYPE17 \# 8 0141017800014200
 j.x. 5 IN TYPE39 \# 13 074578616d706c65034e455400
 k.x. 5 IN TYPE108 \# 6 00005e00532a
+l.x. 5 IN TYPE65 \# 21 0001000001000602683202683300040004c0000203
 end
 
 # no TTL is in force: an SOA's MINIMUM is its TTL, and that of the records after it; of another type there is none

@@ -7,7 +7,7 @@ use wide_text::{read_wide_data, read_wide_front, seconds, write_wide_data, write
 use zone_lexing::{Entries, Word};
 
 /// What stands after an owner, and the data (RFC 4034, 5.4; RFC 8659, 4.1; RFC 7553, 4; RFC 4701, 3.6, and other examples).
-const RECORDS: [(&str, &str); 20] = [
+const RECORDS: [(&str, &str); 27] = [
     ("HINFO \"INTEL-386\" UNIX", "09494e54454c2d33383604554e4958"),
     (
         "CAA 0 issue \"letsencrypt.org\"",
@@ -45,6 +45,34 @@ const RECORDS: [(&str, &str); 20] = [
         "0301010123456789abcdef0123456789abcdef0123456789abcdef0123456789abcdef",
     ),
     ("SSHFP 4 2 0 1 23", "04020123"),
+    (
+        "HTTPS 0 svc.example.net.",
+        "0000037376630765 78616d706c65036e657400",
+    ),
+    (
+        "HTTPS 1 . alpn=h2,h3 ipv4hint=192.0.2.3",
+        "0001000001000602683202683300040004c0000203",
+    ),
+    (
+        "SVCB 16 foo.example.org. alpn=\"f\\\\\\\\oo\\\\,bar,h2\"",
+        "001003666f6f076578616d706c65036f7267000001000c08665c6f6f2c626172026832",
+    ),
+    (
+        "SVCB 16 foo.example.org. mandatory=alpn,ipv4hint alpn=h2,h3-19 ipv4hint=192.0.2.1",
+        "001003666f6f076578616d706c65036f7267000000000400010004000100090268320568332d313900040004c0000201",
+    ),
+    (
+        "SVCB 1 foo.example.com. port=53",
+        "000103666f6f076578616d706c6503636f6d00000300020035",
+    ),
+    (
+        "SVCB 1 foo.example.com. key667=\"hello\\210qoo\"",
+        "000103666f6f076578616d706c6503636f6d00029b000968656c6c6fd2716f6f",
+    ),
+    (
+        "HTTPS 1 . no-default-alpn= ech=AQID ipv6hint=\"2001:db8::1,2001:db8::53:1\"",
+        "000100 00020000 00050003010203 0006002020010db800000000000000000000000120010db8000000000000000000530001",
+    ),
     ("EUI48 00-00-5e-00-53-2a", "00005e00532a"),
     ("EUI64 00-00-5E-ef-10-00-00-2A", "00005eef1000002a"),
     ("DNSKEY 256 3 5 AQPS", "0100030501 03d2"),
@@ -58,7 +86,7 @@ const RECORDS: [(&str, &str); 20] = [
 ];
 
 /// What is refused, and how.
-const REFUSED: [(&str, Cause); 16] = [
+const REFUSED: [(&str, Cause); 25] = [
     ("CAA 256 issue \"a\"", Cause::Number),
     ("CAA 0 \"issue\" \"a\"", Cause::BadData),
     ("CAA 0 is-sue \"a\"", Cause::BadData),
@@ -69,6 +97,15 @@ const REFUSED: [(&str, Cause); 16] = [
     ("OPENPGPKEY AQIDBA", Cause::BadData),
     ("DS 1 RSA 1 00", Cause::Number),
     ("URI 1h 1 \"a\"", Cause::Number),
+    ("HTTPS 1", Cause::BadData),
+    ("HTTPS 1 . alpn", Cause::BadData),
+    ("HTTPS 1 . port=65536", Cause::Number),
+    ("HTTPS 1 . port=53 port=54", Cause::BadData),
+    ("HTTPS 1 . port=53 alpn=h2", Cause::BadData),
+    ("HTTPS 1 . mandatory=mandatory", Cause::BadData),
+    ("HTTPS 1 . other=1", Cause::BadData),
+    ("HTTPS 1 . ipv4hint=192.0.2", Cause::BadData),
+    ("HTTPS 1 . alpn \"h2\"", Cause::BadData),
     ("EUI48 00-00-5e-00-53", Cause::BadData),
     ("EUI48 00-00-5e-00-53-2a-00", Cause::BadData),
     ("EUI48 00:00:5e:00:53:2a", Cause::BadData),

@@ -1,5 +1,5 @@
 -- Hexadecimal digits, and pairs of them with hyphens between, are read as the octets that they were written of.
-use Rattle.std.proofs.Common.{◌≡◌, ℕ, zero, suc, ◌+◌, ◌*◌, ◌/◌, ◌%◌, ◌<◌, ◌≤◌, Bool, true, false, cond, ◌==◌, nat_le, List, [], ◌∷◌, ◌++◌, length, take, slice_index, Option, Some, None, Result, Ok, Err, refl, sym, ap, ◌∙◌, arith}
+use Rattle.std.proofs.Common.{◌≡◌, ℕ, zero, suc, ◌*◌, ◌/◌, ◌%◌, ◌<◌, ◌≤◌, Bool, true, cond, ◌==◌, nat_le, List, [], ◌∷◌, length, take, slice_index, Result, Ok, Err, refl, ap, ◌∙◌, arith}
 use Rattle.std.proofs.lemmas.Bool.Decides.{nat_tests}
 use Rattle.std.proofs.lemmas.List.{length-take-le}
 use Rattle.std.proofs.lemmas.List.Elements.{All-head, All-tail, All-take}
@@ -12,7 +12,7 @@ use Rattle.record_text.specs.declared.cause.Cause.TheVariants.{BadData}
 use Rattle.record_text.proofs.BackLemmas.{AreOctets}
 use Rattle.record_text.proofs.DataLemmas.{equal_test}
 use Rattle.wide_text.specs.Encoded.{eui_digits, eui_in, hex_in}
-use Rattle.wide_text.specs.Words.{more_pairs, pairs}
+use Rattle.wide_text.specs.Words.{pairs}
 
 pub are_bytes : (octets : List ℕ) → AreOctets octets → (i : ℕ) → slice_index octets i < 256
 are_bytes [] h i = omega arith

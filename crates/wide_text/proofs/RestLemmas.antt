@@ -1,8 +1,8 @@
 -- The words after the fields are read as the octets that they were written of, and so are the words of a whole form.
-use Rattle.std.proofs.Common.{◌≡◌, ℕ, zero, suc, ◌<◌, Bool, true, false, cond, ◌&&◌, ◌==◌, nat_lt, List, [], ◌∷◌, ◌++◌, length, drop, take, slice_index, Option, Some, None, option_map, option_and_then, Result, Ok, Err, refl, sym, ap, ◌∙◌, arith}
+use Rattle.std.proofs.Common.{◌≡◌, ℕ, ◌<◌, Bool, true, false, cond, ◌&&◌, ◌==◌, nat_lt, List, [], ◌∷◌, ◌++◌, length, drop, take, Option, Some, None, option_map, option_and_then, Result, Ok, Err, refl, sym, ap, ◌∙◌, arith}
 use Rattle.std.proofs.lemmas.Bool.Decides.{nat_tests, Decides-eqb}
 use Rattle.std.proofs.lemmas.List.{append-nil, take-append-drop, nil_from_length}
-use Rattle.std.proofs.lemmas.List.Elements.{All-head, All-tail, All-drop}
+use Rattle.std.proofs.lemmas.List.Elements.{All-drop}
 use Rattle.base64.specs.Engines.{standard}
 use Rattle.base64.specs.GeneralPurpose.{encode_of}
 use Rattle.base64.specs.declared.DecodeError.{DecodeError}
@@ -102,6 +102,7 @@ rest_back rest.Nothing octets h = nothing_by octets (length octets == 0) refl
 rest_back rest.Strings octets h = strings_rest octets h
 rest_back rest.Hex octets h = hex_by octets (length octets == 0) h
 rest_back rest.Base64 octets h = base64_by octets (length octets == 0) h
+rest_back rest.Params octets h = tt
 
 -- the words of fields and of what stands after them
 abbrev pub AreBack : List Field → Rest → List ℕ → Option (List Written) → Type 0

@@ -55,6 +55,9 @@ forms =
     ∷ record { word = codes "CDNSKEY"; rtype = 60; fields = field.Short ∷ field.Octet ∷ field.Algorithm ∷ []; rest = rest.Base64 }
     -- RFC 7929, 2.3
     ∷ record { word = codes "OPENPGPKEY"; rtype = 61; fields = []; rest = rest.Base64 }
+    -- RFC 9460, 2.1 and 9
+    ∷ record { word = codes "SVCB"; rtype = 64; fields = field.Short ∷ field.Name ∷ []; rest = rest.Params }
+    ∷ record { word = codes "HTTPS"; rtype = 65; fields = field.Short ∷ field.Name ∷ []; rest = rest.Params }
     -- RFC 4408, 3.1.1
     ∷ record { word = codes "SPF"; rtype = 99; fields = []; rest = rest.Strings }
     -- RFC 7043, 3.2 and 4.2

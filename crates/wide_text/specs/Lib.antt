@@ -5,6 +5,7 @@ pub mod Forms
 pub mod Front
 pub mod Laws
 pub mod Mnemonics
+pub mod Params
 pub mod Private
 pub mod Signing
 pub mod Texts

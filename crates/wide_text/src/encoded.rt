@@ -109,7 +109,7 @@ fn hex_in(alloc: Global, text: &[u8]) -> Result<Vec<u8>, Cause>
 
 /// The octets that a text is in base64; `BadData` where it is none.
 #[tactic(auto, unfolding(crate::specs::Encoded::base64_in))]
-fn base64_in(alloc: Global, text: &[u8]) -> Result<Vec<u8>, Cause>
+pub(crate) fn base64_in(alloc: Global, text: &[u8]) -> Result<Vec<u8>, Cause>
     ensures octets { IfOk result (λ own. base64_in text.now ≡ Ok own.items) }
     ensures fault { IfErr result (IsToldOf (base64_in text.now)) }
 {

@@ -9,6 +9,7 @@ ghost use Rattle.zone_lexing.specs.Word.{written};
 use crate::encoded::{put_base64, put_eui, put_hex};
 use crate::forms::{Field, Rest};
 use crate::mnemonics::{all_algorithms, all_certificate_types, named};
+use crate::params::put_params;
 use crate::texts::{put_string, put_strings, put_tag, put_text};
 use crate::times::seconds;
 use dns_name::Name;
@@ -103,6 +104,7 @@ fn put_rest(
         Rest::Strings => put_strings(alloc, octets, words),
         Rest::Hex => put_hex(alloc, octets, words),
         Rest::Base64 => put_base64(alloc, octets, words),
+        Rest::Params => put_params(alloc, octets, words),
     }
 }
 

@@ -51,6 +51,8 @@ pub enum Rest {
     Hex,
     /// Octets in base64 (RFC 4648, 4).
     Base64,
+    /// Parameters of a service (RFC 9460, 2.1).
+    Params,
 }
 
 /// A type's word, its number and the form of its data.
@@ -67,7 +69,7 @@ pub struct Form {
 }
 
 /// The table.
-const FORMS: [Form; 22] = [
+const FORMS: [Form; 24] = [
     Form {
         word: "SOA",
         rtype: 6,
@@ -184,6 +186,18 @@ const FORMS: [Form; 22] = [
         rtype: 61,
         fields: &[],
         rest: Rest::Base64,
+    },
+    Form {
+        word: "SVCB",
+        rtype: 64,
+        fields: &[Field::Short, Field::Name],
+        rest: Rest::Params,
+    },
+    Form {
+        word: "HTTPS",
+        rtype: 65,
+        fields: &[Field::Short, Field::Name],
+        rest: Rest::Params,
     },
     Form {
         word: "SPF",

@@ -11,6 +11,7 @@ mod forms;
 mod front;
 mod laws;
 mod mnemonics;
+mod params;
 mod signing;
 mod texts;
 mod times;

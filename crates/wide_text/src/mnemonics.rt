@@ -12,8 +12,10 @@ use zone_lexing::Word;
 /// A word and its number.
 #[derive(Clone, Copy)]
 pub(crate) struct Mnemonic {
-    word: &'static str,
-    number: u8,
+    /// The word.
+    pub(crate) word: &'static str,
+    /// The number.
+    pub(crate) number: u8,
 }
 
 /// The algorithms of DNSSEC (RFC 4034, A.1, and those that add to it).

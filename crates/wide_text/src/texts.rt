@@ -129,7 +129,7 @@ fn is_alphanumeric(text: &[u8]) -> bool
 }
 
 /// The octets of a text, its escapes undone; None where a backslash has no escape after it (RFC 1035, 5.1).
-fn unescaped(alloc: Global, text: &[u8]) -> Result<Option<Vec<u8>>, AllocError>
+pub(crate) fn unescaped(alloc: Global, text: &[u8]) -> Result<Option<Vec<u8>>, AllocError>
     ensures { IfOk result (λ own. option_map (λ v. v.items) own ≡ unescaped text.now) }
 {
     let mut octets = Vec::new(alloc);
