@@ -67,7 +67,7 @@ done_push published begun (first ∷ verdicts) (other ∷ batch) one verdict lon
 
 module _ (published : List Version) (first : Version) (last : IsLast published first) where
   -- what is judged is told so once it is published
-  pub judged_done : {asked : List QueuedUpdate} {verdicts : List Verdict} {made : List Version} {updates : List (List ℕ)} → Judged first asked verdicts made updates
+  pub judged_done : {asked : List QueuedUpdate} {verdicts : List Verdict} {made : List Version} {updates : List (List (List ℕ))} → Judged first asked verdicts made updates
       → AreDone (published ++ made) (length published) verdicts asked
   judged_done nothing = tt
   judged_done (reported {requests} {verdicts} {made} one code judged is) =
