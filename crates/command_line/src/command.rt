@@ -9,6 +9,7 @@ use crate::program::program;
 use crate::stored_zone::Part;
 use clap::ArgMatches;
 use commands::{Command, Source};
+use control_socket::ControlCommand;
 use dns_name::Name;
 use serve_core::Transport;
 use std::alloc::{AllocError, Global};
@@ -38,6 +39,8 @@ pub enum Task<'a> {
     Deploy(Deploy<'a>),
     /// Prints what a request gets by rules.
     May(Trial<'a>),
+    /// Sends a command to a running server.
+    Control(Control<'a>),
 }
 
 impl<'a> Drop for Task<'a> {
@@ -54,6 +57,7 @@ impl<'a> Drop for Task<'a> {
             Task::Change(_) => {}
             Task::Deploy(_) => {}
             Task::May(_) => {}
+            Task::Control(_) => {}
         }
     }
 }
@@ -107,6 +111,15 @@ impl<'a> Drop for Deploy<'a> {
     }
 }
 
+/// A command for a running server.
+#[derive(Clone, Copy, Debug, PartialEq, Eq)]
+pub struct Control<'a> {
+    /// The path of its socket.
+    pub path: &'a str,
+    /// The command.
+    pub command: ControlCommand,
+}
+
 /// A store whose zone is to be printed.
 #[derive(Clone, Copy, Debug, PartialEq, Eq)]
 pub struct Stored<'a> {
@@ -136,6 +149,9 @@ fn task_of<'a>(
 ) -> Result<Task<'a>, CommandFault<'a>> {
     if name == "zone" {
         return Ok(Task::Stored(stored_of(found)));
+    }
+    if name == "control" {
+        return Ok(Task::Control(control_of(found)?));
     }
     if name == "journal" {
         return Ok(Task::Journal(dir_of(found)));
@@ -201,6 +217,18 @@ fn deploy_of<'a>(
     })
 }
 
+/// The command for a running server.
+fn control_of<'a>(found: &ArgMatches<'a>) -> Result<Control<'a>, CommandFault<'a>> {
+    let word = found.get_str(COMMAND_WORD).unwrap_or("");
+    match ControlCommand::of(word.as_bytes()) {
+        Some(command) => Ok(Control {
+            path: found.get_str(PATH).unwrap_or(""),
+            command,
+        }),
+        None => Err(CommandFault::Control(word)),
+    }
+}
+
 /// The store whose zone is to be printed.
 fn stored_of<'a>(found: &ArgMatches<'a>) -> Stored<'a> {
     let part = if found.get_flag(BEFORE_FAULT) {
@@ -264,6 +292,12 @@ pub const OLD: &str = "old";
 
 /// The argument for the source of the next zone's text.
 pub const NEW: &str = "new";
+
+/// The argument for the path of a running server's socket.
+pub const PATH: &str = "path";
+
+/// The argument for a command for a running server.
+pub const COMMAND_WORD: &str = "command";
 
 /// The option for warnings of a zone's text.
 pub const WARN: &str = "warn";

@@ -62,6 +62,8 @@ pub enum CommandFault<'a> {
     Address(&'a str),
     /// The word is not an address and port of a server.
     Server(&'a str),
+    /// The word is no command for a running server.
+    Control(&'a str),
 }
 
 impl<'a> Drop for CommandFault<'a> {
@@ -93,6 +95,7 @@ impl<'a> Drop for CommandFault<'a> {
             CommandFault::Rule(_, _) => {}
             CommandFault::Address(_) => {}
             CommandFault::Server(_) => {}
+            CommandFault::Control(_) => {}
         }
     }
 }
@@ -148,7 +151,7 @@ pub fn tell_fault<R: Print + Eprint>(rt: &R, fault: &CommandFault<'_>) -> io::Re
         }
         CommandFault::Threads(workers, addresses) => {
             eprintln!(rt;
-                "error: --workers {workers} with {addresses} addresses needs more than 62 threads: each worker has one for TCP, and one for UDP on each address; --notify needs one more"
+                "error: --workers {workers} with {addresses} addresses needs more than 62 threads: each worker has one for TCP, and one for UDP on each address; --notify and --control need one more each"
             )?;
         }
         CommandFault::Notify(word) => {
@@ -173,6 +176,9 @@ pub fn tell_fault<R: Print + Eprint>(rt: &R, fault: &CommandFault<'_>) -> io::Re
         }
         CommandFault::Take(word) => {
             eprintln!(rt; "error: --take: '{word}' is neither store nor zone")?;
+        }
+        CommandFault::Control(word) => {
+            eprintln!(rt; "error: COMMAND: '{word}' is none of reload, status, stats and stop")?;
         }
         CommandFault::NoStore(option) => {
             eprintln!(rt; "error: --{option} needs --store")?;

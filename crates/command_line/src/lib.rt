@@ -19,7 +19,7 @@ mod start_fault;
 mod store_options;
 mod stored_zone;
 
-pub use command::{Change, Deploy, Stored, Task, parse_words};
+pub use command::{Change, Control, Deploy, Stored, Task, parse_words};
 pub use fault::{BAD_COMMAND, CommandFault, tell_fault};
 pub use key_rules::KeyRules;
 pub use may::Trial;

@@ -55,6 +55,8 @@ pub struct Serve<'a> {
     pub store: Option<StorePlan<'a>>,
     /// The file of the keys that clients sign by, if signatures are checked.
     pub keys: Option<&'a str>,
+    /// The path of the socket for the operator's commands, if there is one. One thread takes them.
+    pub control: Option<&'a str>,
     ghost few_kept: { keep ≤ KEPT },
     ghost some_workers: { 0 < workers },
     ghost few_threads: { workers * (vec_len listen + 1) ≤ 62 },
@@ -85,6 +87,7 @@ impl<'a> Drop for Serve<'a> {
             secondaries: _,
             store: _,
             keys: _,
+            control: _,
         } = self;
     }
 }
@@ -114,6 +117,9 @@ pub const CONNECTIONS: &str = "connections";
 /// The maximum number of open connections per worker that the option accepts.
 const MAX_CONNECTIONS: usize = 100_000;
 
+/// The option for the socket for the operator's commands.
+pub const CONTROL: &str = "control";
+
 /// The option for the time that a connection may be idle.
 pub const IDLE: &str = "idle";
 
@@ -142,7 +148,8 @@ pub fn serve_of<'a>(
     let listen = listened(alloc, found)?;
     let workers = number_for(found.get_str(WORKERS), WORKERS, 1, MAX_WORKERS, 4)?;
     let secondaries = secondaries_of(alloc, found)?;
-    let threads = threads_beside(secondaries.as_slice());
+    let control = control_of(found);
+    let threads = threads_beside(secondaries.as_slice(), control);
     if listen.len() >= threads || workers * (listen.len() + 1) > threads {
         return Err(CommandFault::Threads(workers, listen.len()));
     }
@@ -177,18 +184,26 @@ pub fn serve_of<'a>(
         secondaries,
         store,
         keys: found.get_str(KEYS),
+        control,
     })
 }
 
-/// The maximum number of worker threads in total, less one if there are secondaries, for the thread that notifies them.
-fn threads_beside(secondaries: &[Secondary]) -> usize
+/// The path of the socket for the operator's commands, if there is one: '' is none.
+fn control_of<'a>(found: &ArgMatches<'a>) -> Option<&'a str> {
+    match found.get_str(CONTROL) {
+        Some("") | None => None,
+        Some(path) => Some(path),
+    }
+}
+
+/// The maximum number of worker threads in total, less one if there are secondaries, for the thread that notifies them, and one if there is a socket for the
+/// operator's commands.
+fn threads_beside(secondaries: &[Secondary], control: Option<&str>) -> usize
     ensures { result ≤ 62 }
 {
-    if secondaries.is_empty() {
-        MAX_THREADS
-    } else {
-        MAX_THREADS - 1
-    }
+    let notifying = if secondaries.is_empty() { 0 } else { 1 };
+    let controlling = if control.is_some() { 1 } else { 0 };
+    MAX_THREADS - notifying - controlling
 }
 
 /// The addresses and ports to listen on.

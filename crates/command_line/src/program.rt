@@ -1,10 +1,10 @@
 //! The program's commands, and the arguments of each.
 use crate::command::{
-    ADDRESS, BEFORE_FAULT, DIR, DRY_RUN, HEX, KEEP, NEW, OLD, ORIGIN, REQUEST, SERVER, TCP, WARN,
-    WINDOW, ZONE,
+    ADDRESS, BEFORE_FAULT, COMMAND_WORD, DIR, DRY_RUN, HEX, KEEP, NEW, OLD, ORIGIN, PATH, REQUEST,
+    SERVER, TCP, WARN, WINDOW, ZONE,
 };
 use crate::may::{ALLOW, KEY, MAY};
-use crate::options::{CONNECTIONS, COUNT, IDLE, KEYS, LISTEN, MESSAGE, REPLY, WORKERS};
+use crate::options::{CONNECTIONS, CONTROL, COUNT, IDLE, KEYS, LISTEN, MESSAGE, REPLY, WORKERS};
 use crate::secondaries::NOTIFY;
 use crate::store_options::{JOURNAL, STORE, TAKE, TRANSFER_RATE, UDP_BUFFER, UPDATE_QUEUE};
 use clap::{Arg, ArgAction, Command as Parser};
@@ -139,6 +139,12 @@ const SERVER_COMMANDS: &[CommandRow] = &[
         words: MAY_WORDS,
     },
     CommandRow {
+        name: "control",
+        about: "sends a command to a running server: reload, status, stats or stop",
+        example: "Example, with a server that was started by --control /run/dnsd/control:\n  dnsd control /run/dnsd/control reload",
+        words: CONTROL_WORDS,
+    },
+    CommandRow {
         name: "serve",
         about: "serves a zone over UDP and TCP",
         example: "Example:\n  dnsd serve --listen 127.0.0.1:5353 zones/example.test.zone\n  dig @127.0.0.1 -p 5353 www.example.test.",
@@ -223,6 +229,20 @@ const DEPLOY_WORDS: &[WordRow] = &[
         help: "address and port of the server, which must permit transfers and updates, over TCP",
     },
     ZONE_ROW,
+];
+
+/// The arguments of `control`.
+const CONTROL_WORDS: &[WordRow] = &[
+    WordRow {
+        name: PATH,
+        form: Form::Word("PATH"),
+        help: "socket of the server, as it was given by --control",
+    },
+    WordRow {
+        name: COMMAND_WORD,
+        form: Form::Word("COMMAND"),
+        help: "reload (ZONE is read again), status, stats or stop",
+    },
 ];
 
 /// The arguments of `zone`.
@@ -321,6 +341,11 @@ const SERVE_WORDS: &[WordRow] = &[
         name: TAKE,
         form: Form::Value("WHICH"),
         help: "which to serve if ZONE has changed since the store was created: store or zone",
+    },
+    WordRow {
+        name: CONTROL,
+        form: Form::Value("PATH"),
+        help: "socket for the commands of dnsd control, which the server's user alone may use (default: none)",
     },
     WordRow {
         name: CONNECTIONS,

@@ -5,7 +5,7 @@ ghost use Rattle.dns_name.specs.Name.{is_same};
 ghost use Rattle.command_line.specs.Keys.{rules_by};
 ghost use Rattle.dnsd.specs.KeyRights.{rights_of};
 
-use command_line::KeyRules;
+use command_line::{KeyRules, Serve};
 use dns_name::Name;
 use key_file::KeyFile;
 use rights::Rule;
@@ -74,4 +74,18 @@ pub fn shared_keys<'a>(
         keys: &file.keys,
         rights,
     })
+}
+
+/// Whether a rule gives anybody a right to update.
+pub fn may_update(serve: &Serve<'_>) -> bool {
+    gives_update(serve.rules.as_slice())
+        || serve
+            .key_rules
+            .iter()
+            .any(|own| gives_update(own.rules.as_slice()))
+}
+
+/// Whether one of these rules gives a right to update.
+fn gives_update(rules: &[Rule]) -> bool {
+    rules.iter().any(|rule| rule.update.is_some())
 }

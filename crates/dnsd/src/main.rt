@@ -4,9 +4,11 @@
 //! each request that it reads, `check` prints the zone's text in its canonical form, `apply` prints the text of the zone after a transfer's messages,
 //! and `steps` plays a script. `zone` prints the zone of a store, by `command_line`, `journal` what its updates changed, by `stored_changes`, and
 //! `change` what changes from one zone to another, by `change_command`; `deploy` sends that to a server, by `zone_deploy`. `may` prints what a request
-//! gets by rules, by `rights`. `serve` answers on sockets, by the workers of `serve_workers`, with what `dnsd_setup` reads, locks and binds.
+//! gets by rules, by `rights`. `control` sends a command to a running server. `serve` answers on sockets, by the workers of `serve_workers`, with what
+//! `dnsd_setup` reads, locks and binds.
 #![tactic(auto)]
 
+pub mod control;
 pub mod key_rights;
 pub mod secondaries;
 pub mod serve;
@@ -15,7 +17,8 @@ pub mod thread_specs;
 use command_line::{Task, parse_words, tell_fault};
 use commands::{Command, FAILED};
 use dnsd_setup::{
-    ROOT_APEX, run_change, run_deploy, run_journal, run_may, run_on_streams, run_stored,
+    FileReader, ROOT_APEX, run_change, run_control, run_deploy, run_journal, run_may,
+    run_on_streams, run_stored,
 };
 use log_lines::Level;
 use serve::run_serve;
@@ -25,12 +28,20 @@ use std::process::ExitCode;
 use std::random::RandomSource;
 use std::rt::Env;
 use std::sync::Wait;
-use std::thread::Threads;
+use std::thread::{self, Threads};
 use std::time::Clock;
-use std::{env, io};
+use std::{env, io, mem};
 
 fn main(rt: HostRuntime) -> ExitCode {
-    match run_words(&rt) {
+    // Only here the runtime's type is known, so that a thread may be given all of it: the files too.
+    let start = |reader: FileReader| -> io::Result<()> {
+        let own = rt;
+        // The thread is not joined: a reload that is under way when the server ends is given up.
+        let thread = thread::spawn(&rt, move || reader.run(&own))?;
+        mem::drop(thread);
+        Ok(())
+    };
+    match run_words(&rt, &start) {
         Ok(status) => ExitCode::from(status),
         Err(fault) => {
             let mark = Level::Error.mark_for(&rt);
@@ -40,7 +51,7 @@ fn main(rt: HostRuntime) -> ExitCode {
     }
 }
 
-/// Runs the task that the command line requests, and returns the program's status.
+/// Runs the task that the command line requests, and returns the program's status. `start` starts the thread that reads a zone file for reloads.
 fn run_words<
     R: Files<File = File>
         + Env
@@ -58,11 +69,14 @@ fn run_words<
         + Sync
         + Drop
         + 'static,
->(rt: &R) -> io::Result<u8> {
+    S: Fn(FileReader) -> io::Result<()>,
+>(rt: &R, start: &S) -> io::Result<u8>
+    requires { (f : _) (x : _) → S.pre f x }
+{
     let alloc = rt.alloc();
     let words: Vec<String> = env::args(rt)?.collect(alloc)?;
     match parse_words(alloc, words.as_slice()) {
-        Ok(task) => run_task(rt, &task),
+        Ok(task) => run_task(rt, &task, start),
         Err(fault) => tell_fault(rt, &fault),
     }
 }
@@ -85,19 +99,23 @@ fn run_task<
         + Sync
         + Drop
         + 'static,
->(rt: &R, task: &Task<'_>) -> io::Result<u8> {
+    S: Fn(FileReader) -> io::Result<()>,
+>(rt: &R, task: &Task<'_>, start: &S) -> io::Result<u8>
+    requires { (f : _) (x : _) → S.pre f x }
+{
     match task {
         Task::Lines {
             command,
             has_origin,
             has_warnings,
         } => run_command(rt, command, *has_origin, *has_warnings),
-        Task::Serve(serve) => run_serve(rt, serve),
+        Task::Serve(serve) => run_serve(rt, serve, start),
         Task::Stored(stored) => run_stored(rt, *stored),
         Task::Journal(dir) => run_journal(rt, dir),
         Task::Change(change) => run_change(rt, change),
         Task::Deploy(deploy) => run_deploy(rt, deploy),
         Task::May(trial) => run_may(rt, trial),
+        Task::Control(control) => run_control(rt, *control),
     }
 }
 

@@ -3,23 +3,23 @@ ghost use Rattle.std.specs.Prelude.{◌≤◌, vec_len};
 ghost use Rattle.transfer_core.specs.declared.kept.TheConstants.{KEPT};
 ghost use Rattle.dnsd_setup.specs.Starts.{CanStart};
 
-use crate::key_rights::{rights_for, shared_keys};
+use crate::control::{NotBound, control_for, unbind_control};
+use crate::key_rights::{may_update, rights_for, shared_keys};
 use crate::secondaries::{SecondarySockets, secondaries_for};
 use crate::thread_specs::{thread_specs_for, work_limits_of};
 use command_line::{BAD_COMMAND, MAX_THREADS, Serve, StorePlan, is_routed};
 use commands::{DONE, FAILED};
 use dnsd_setup::{
-    BoundSockets, Entries, Listening, Log, LogLine, ServedZone, StartedZone, WorkerSockets,
-    ZoneStore, bind_sockets, descriptors, keys_for, read_text_for, start_entries, start_store_for,
-    tell_outside, text_for,
+    BoundSockets, Entries, FileReader, Listening, Log, LogLine, ServedZone, StartedZone,
+    WorkerSockets, ZoneStore, bind_sockets, descriptors, keys_for, read_text_for, start_entries,
+    start_store_for, tell_outside, text_for,
 };
 use key_file::KeyFile;
 use notify::large_in;
 use requests::Allowed;
-use rights::Rule;
 use serve_workers::{
-    ConnectionPlan, Most, Plan, ServeFault, Shutdown, ThreadSpec, UpdateConfig, WorkLimit,
-    serve_zone,
+    ConnectionPlan, ControlPlan, Most, Plan, ServeFault, Shutdown, ThreadSpec, UpdateConfig,
+    WorkLimit, serve_zone,
 };
 use std::alloc::Global;
 use std::fs::{File, Files};
@@ -57,7 +57,10 @@ pub fn run_serve<
         + Sync
         + Drop
         + 'static,
->(rt: &R, serve: &Serve<'_>) -> io::Result<u8> {
+    S: Fn(FileReader) -> io::Result<()>,
+>(rt: &R, serve: &Serve<'_>, start: &S) -> io::Result<u8>
+    requires { (f : _) (x : _) → S.pre f x }
+{
     let keys = match keys_for(rt, serve) {
         Ok(Ok(keys)) => keys,
         Ok(Err(status)) => return Ok(status),
@@ -67,8 +70,8 @@ pub fn run_serve<
         return Ok(FAILED);
     };
     match serve.store {
-        Some(plan) => serve_store(rt, serve, plan, text, keys.as_ref()),
-        None => serve_zone_text(rt, serve, text, keys.as_ref()),
+        Some(plan) => serve_store(rt, serve, plan, text, keys.as_ref(), start),
+        None => serve_zone_text(rt, serve, text, keys.as_ref(), start),
     }
 }
 
@@ -88,22 +91,64 @@ fn serve_zone_text<
         + Sync
         + Drop
         + 'static,
->(rt: &R, serve: &Serve<'_>, text: Vec<u8>, keys: Option<&KeyFile>) -> io::Result<u8> {
+    S: Fn(FileReader) -> io::Result<()>,
+>(rt: &R, serve: &Serve<'_>, text: Vec<u8>, keys: Option<&KeyFile>, start: &S) -> io::Result<u8>
+    requires { (f : _) (x : _) → S.pre f x }
+{
     let begun = match read_text_for(rt, serve, text) {
         Ok(Ok(begun)) => begun,
         Ok(Err(status)) => return Ok(status),
         Err(fault) => return Err(fault),
     };
-    let bound = match bind(rt, serve, keys.map(|file| &file.keys)) {
+    let bound = match bind(rt, serve, keys.map(|file| &file.keys), start) {
         Ok(Some(bound)) => bound,
         Ok(None) => return Ok(FAILED),
         Err(fault) => return Err(fault),
     };
-    serve_on_sockets(rt, serve, begun, bound, keys)
+    let served = serve_on_sockets(rt, serve, begun, bound, keys);
+    unbind_control(rt, serve);
+    served
 }
 
 /// Serves the zone of a store, or the zone of the text from which the store is created.
 fn serve_store<
+    R: Files<File = File>
+        + Env
+        + Eprint
+        + AllocGlobal
+        + Net<Listener = TcpListener, Stream = TcpStream>
+        + Threads
+        + Wait
+        + Clock
+        + RandomSource
+        + Copy
+        + Send
+        + Sync
+        + Drop
+        + 'static,
+    S: Fn(FileReader) -> io::Result<()>,
+>(
+    rt: &R,
+    serve: &Serve<'_>,
+    plan: StorePlan<'_>,
+    text: Vec<u8>,
+    keys: Option<&KeyFile>,
+    start: &S,
+) -> io::Result<u8>
+    requires { (f : _) (x : _) → S.pre f x }
+{
+    let bound = match bind(rt, serve, keys.map(|file| &file.keys), start) {
+        Ok(Some(bound)) => bound,
+        Ok(None) => return Ok(FAILED),
+        Err(fault) => return Err(fault),
+    };
+    let served = serve_bound_store(rt, serve, plan, text, bound, keys);
+    unbind_control(rt, serve);
+    served
+}
+
+/// Serves the zone of a store on sockets that are already bound.
+fn serve_bound_store<
     R: Files<File = File>
         + Env
         + Eprint
@@ -123,19 +168,14 @@ fn serve_store<
     serve: &Serve<'_>,
     plan: StorePlan<'_>,
     text: Vec<u8>,
+    bound: Bound,
     keys: Option<&KeyFile>,
 ) -> io::Result<u8> {
-    let bound = match bind(rt, serve, keys.map(|file| &file.keys)) {
-        Ok(Some(bound)) => bound,
-        Ok(None) => return Ok(FAILED),
-        Err(fault) => return Err(fault),
-    };
-    let begun = match start_store_for(rt, serve, plan, text) {
-        Ok(Ok(begun)) => begun,
-        Ok(Err(status)) => return Ok(status),
-        Err(fault) => return Err(fault),
-    };
-    serve_on_sockets(rt, serve, begun, bound, keys)
+    match start_store_for(rt, serve, plan, text) {
+        Ok(Ok(begun)) => serve_on_sockets(rt, serve, begun, bound, keys),
+        Ok(Err(status)) => Ok(status),
+        Err(fault) => Err(fault),
+    }
 }
 
 /// What a server acquires from the system before it has a zone.
@@ -147,12 +187,15 @@ struct Bound {
     secondaries: SecondarySockets,
     /// The queue of the log's thread.
     entries: Entries,
+    /// What the thread needs that takes the operator's commands, if there is one.
+    control: Option<ControlPlan>,
 }
 
 /// Binds all sockets, and starts the log's thread. None if an address cannot be listened on or a secondary cannot be notified; standard error then
 /// has the reason.
 fn bind<
-    R: Env
+    R: Files<File = File>
+        + Env
         + Eprint
         + AllocGlobal
         + Net<Listener = TcpListener, Stream = TcpStream>
@@ -164,7 +207,10 @@ fn bind<
         + Send
         + Drop
         + 'static,
->(rt: &R, serve: &Serve<'_>, keys: Option<&Keys>) -> io::Result<Option<Bound>> {
+    S: Fn(FileReader) -> io::Result<()>,
+>(rt: &R, serve: &Serve<'_>, keys: Option<&Keys>, start: &S) -> io::Result<Option<Bound>>
+    requires { (f : _) (x : _) → S.pre f x }
+{
     let sockets = match bind_sockets(rt, serve) {
         Ok(Some(sockets)) => sockets,
         Ok(None) => return Ok(None),
@@ -176,14 +222,21 @@ fn bind<
         Ok(None) => return Ok(None),
         Err(fault) => return Err(fault),
     };
-    match start_entries(rt) {
-        Ok(entries) => Ok(Some(Bound {
-            sockets,
-            secondaries,
-            entries,
-        })),
-        Err(fault) => Err(io::Error::from(fault)),
-    }
+    let entries = match start_entries(rt) {
+        Ok(entries) => entries,
+        Err(fault) => return Err(io::Error::from(fault)),
+    };
+    let control = match control_for(rt, serve, start) {
+        Ok(Ok(control)) => control,
+        Ok(Err(NotBound)) => return Ok(None),
+        Err(fault) => return Err(fault),
+    };
+    Ok(Some(Bound {
+        sockets,
+        secondaries,
+        entries,
+        control,
+    }))
 }
 
 /// Serves a zone on sockets that are already bound.
@@ -222,38 +275,16 @@ fn serve_on_sockets<
         sockets,
         secondaries,
         entries,
+        control,
     } = bound;
     let (workers, addresses, kept) = sockets.into_parts();
     let log = Log::new(entries, listening_for(serve, &begun, addresses, kept));
     warn(rt, serve, &log);
     warn_of_zone(rt, serve, &begun, &log);
-    let served = serve_on_workers(
-        rt,
-        rt.alloc(),
-        serve,
-        begun,
-        workers,
-        secondaries,
-        keys,
-        &log,
-    );
+    let served = serve_on_workers(rt, serve, begun, workers, secondaries, keys, control, &log);
     let status = status_of(rt, served, &log);
     log.end(rt);
     Ok(status)
-}
-
-/// Whether a rule gives anybody a right to update.
-fn may_update(serve: &Serve<'_>) -> bool {
-    gives_update(serve.rules.as_slice())
-        || serve
-            .key_rules
-            .iter()
-            .any(|own| gives_update(own.rules.as_slice()))
-}
-
-/// Whether one of these rules gives a right to update.
-fn gives_update(rules: &[Rule]) -> bool {
-    rules.iter().any(|rule| rule.update.is_some())
 }
 
 /// What is logged once all workers have started.
@@ -342,22 +373,31 @@ fn serve_on_workers<
         + Drop,
 >(
     rt: &R,
-    alloc: Global,
     serve: &Serve<'_>,
     begun: StartedZone,
     sockets: Vec<WorkerSockets>,
     secondaries: SecondarySockets,
     keys: Option<&KeyFile>,
+    control: Option<ControlPlan>,
     log: &Log,
 ) -> Result<(), ServeFault>
     requires { CanStart begun }
 {
+    let alloc = rt.alloc();
     let Some(progresses) = work_limits_of(alloc, serve.workers, serve.most) else {
         return Err(ServeFault::NoMemory);
     };
     let telling = WorkLimit::new(u64::MAX);
     let apex = begun.zone().apex();
-    let specs = thread_specs_for(alloc, sockets, secondaries, apex, &progresses, &telling);
+    let specs = thread_specs_for(
+        alloc,
+        sockets,
+        secondaries,
+        control,
+        apex,
+        &progresses,
+        &telling,
+    );
     let Some(specs) = specs else {
         return Err(ServeFault::NoMemory);
     };

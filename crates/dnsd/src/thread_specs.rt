@@ -2,15 +2,16 @@
 use crate::secondaries::SecondarySockets;
 use dns_name::Name;
 use dnsd_setup::WorkerSockets;
-use serve_workers::{Sockets, ThreadSpec, WorkLimit};
+use serve_workers::{ControlPlan, Sockets, ThreadSpec, WorkLimit};
 use std::alloc::Global;
 
-/// What each thread serves: each worker's listeners, each of its UDP sockets, and, in one more thread, the secondaries of the zone with this apex. None
-/// if there is not enough memory.
+/// What each thread serves: each worker's listeners, each of its UDP sockets, and, in one more thread each, the secondaries of the zone with this apex and
+/// the operator. None if there is not enough memory.
 pub fn thread_specs_for<'a>(
     alloc: Global,
     sockets: Vec<WorkerSockets>,
     secondaries: SecondarySockets,
+    control: Option<ControlPlan>,
     apex: &Name,
     progresses: &'a [WorkLimit],
     telling: &'a WorkLimit,
@@ -20,6 +21,10 @@ pub fn thread_specs_for<'a>(
         let worker = specs.len().saturating_add(1);
         let secondaries = Sockets::Secondaries(secondaries.of_zone(apex.copy()));
         put(&mut specs, worker, telling, secondaries)?;
+    }
+    if let Some(control) = control {
+        let worker = specs.len().saturating_add(1);
+        put(&mut specs, worker, telling, Sockets::Control(control))?;
     }
     Some(specs)
 }

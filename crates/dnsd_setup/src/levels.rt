@@ -7,14 +7,17 @@ use zone_server::{Event, JobEnd};
 /// The level of an event of the service.
 pub(crate) fn level_of_event(event: &Event) -> Level {
     match event {
-        Event::Update { .. } => Level::Info,
-        Event::End { end, .. } | Event::Unlogged { end } => level_of_end(end),
+        Event::Update { .. } | Event::Reloaded { .. } => Level::Info,
+        Event::End { end, .. } | Event::Unlogged { end } | Event::ControlEnd { end } => {
+            level_of_end(end)
+        }
         Event::Serving | Event::Again { .. } => Level::Notice,
         Event::Lost { .. }
         | Event::Silent { .. }
         | Event::Refused { .. }
         | Event::Signed { .. }
         | Event::BadTsig { .. }
+        | Event::NotReloaded(_)
         | Event::Large(_) => Level::Warning,
     }
 }

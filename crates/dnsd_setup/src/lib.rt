@@ -8,6 +8,7 @@
 
 mod bound;
 mod change;
+mod control;
 mod deploy;
 pub mod descriptors;
 mod kept;
@@ -17,6 +18,7 @@ mod lines;
 mod log;
 mod may;
 mod peer_lines;
+mod reload;
 mod started_zone;
 mod stored;
 mod streams;
@@ -25,12 +27,14 @@ mod zone_file;
 
 pub use bound::{BoundSockets, WorkerSockets, bind_sockets};
 pub use change::run_change;
+pub use control::{bind_control_at, remove_control, run_control};
 pub use deploy::run_deploy;
 pub use kept::start_store_for;
 pub use keys::keys_for;
 pub use lines::{LogLine, ROOT_APEX};
 pub use log::{Listening, Log};
 pub use may::{run_may, tell_outside};
+pub use reload::{FileReader, prepare_reloads};
 pub use started_zone::{ServedZone, StartedStore, StartedZone, ZoneStore};
 pub use stored::{run_journal, run_stored};
 pub use streams::run_on_streams;

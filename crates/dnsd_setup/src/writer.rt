@@ -106,6 +106,12 @@ impl<E: Eprint + AllocGlobal + Wait + Clock> ErrorLines<E> {
                     serials: Some(Serials { after, .. }),
                     ..
                 },
+            )
+            | LogLine::Event(
+                Event::Reloaded {
+                    serials: Serials { after, .. },
+                    ..
+                },
             ) => self.note_serial(*after),
             _ => {}
         }

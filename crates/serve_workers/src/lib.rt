@@ -21,4 +21,4 @@ pub use signed_jobs::SharedKeys;
 pub use tcp_loop::Plan as ConnectionPlan;
 pub use thread_spec::{Sockets, ThreadSpec};
 pub use update_batches::Most;
-pub use worker_jobs::{NotifySocket, Secondaries, ServeFault, Shutdown, WorkLimit};
+pub use worker_jobs::{ControlPlan, NotifySocket, Secondaries, ServeFault, Shutdown, WorkLimit};

@@ -21,7 +21,7 @@ enum Path<'a> {
     Keys(&'a WakeList),
     /// The replies are sent by its UDP socket.
     Socket(UdpSocket),
-    /// The thread gets no replies, since it gets no updates.
+    /// The thread gets no replies: it gets no updates, or looks for their results itself.
     Nowhere,
 }
 
@@ -53,7 +53,8 @@ fn path_to<'a>(spec: &ThreadSpec<'_>, updates: &'a Updates, place: usize) -> io:
             Some(keys) => Ok(Path::Keys(keys)),
             None => Ok(Path::Nowhere),
         },
-        Sockets::Secondaries(_) => Ok(Path::Nowhere),
+        // The thread that takes commands looks for the result of its update itself.
+        Sockets::Secondaries(_) | Sockets::Control(_) => Ok(Path::Nowhere),
     }
 }
 

@@ -59,6 +59,7 @@ impl<C: Clock> SocketJob<'_, C> {
             SocketJob::SignedDatagrams(signed) => signed.job.end(),
             SocketJob::SignedConnections(signed) => signed.job.end(),
             SocketJob::Secondaries(job) => job.end(),
+            SocketJob::Control(job) => job.end(),
         };
         match end {
             Some(JobEnd::Device) => Some(ServeFault::Device),

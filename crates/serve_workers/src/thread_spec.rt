@@ -12,7 +12,8 @@ use std::net::{Net, TcpListener, UdpSocket};
 use std::sync::Wait;
 use std::time::Clock;
 use worker_jobs::{
-    DatagramsJob, NotifyJob, Scratch, Secondaries, StopFlag, WakeList, WorkLimit, WorkerSocket,
+    ControlJob, ControlPlan, DatagramsJob, NotifyJob, Scratch, Secondaries, StopFlag, WakeList,
+    WorkLimit, WorkerSocket,
 };
 
 /// What one thread serves.
@@ -23,6 +24,8 @@ pub enum Sockets {
     Connections(Vec<TcpListener>),
     /// The secondaries that are notified of each version.
     Secondaries(Secondaries),
+    /// The operator, by a socket for commands.
+    Control(ControlPlan),
 }
 
 impl Drop for Sockets {
@@ -31,6 +34,7 @@ impl Drop for Sockets {
             Sockets::Datagrams(_) => {}
             Sockets::Connections(_) => {}
             Sockets::Secondaries(_) => {}
+            Sockets::Control(_) => {}
         }
     }
 }
@@ -80,6 +84,12 @@ impl Sockets {
                 let keys = plan.keys.map(|shared| shared.keys);
                 match NotifyJob::new(alloc, worker, secondaries, rt, plan.shutdown, keys) {
                     Ok(job) => Ok(SocketJob::Secondaries(job)),
+                    Err(fault) => Err(io::Error::from(fault)),
+                }
+            }
+            Sockets::Control(control) => {
+                match ControlJob::new(alloc, worker, control, rt, plan.shutdown) {
+                    Ok(job) => Ok(SocketJob::Control(job)),
                     Err(fault) => Err(io::Error::from(fault)),
                 }
             }

@@ -15,7 +15,7 @@ use std::alloc::Global;
 use std::marker::Brand;
 use std::sync::Wait;
 use std::time::Clock;
-use worker_jobs::{ConnectionsJob, DatagramsJob, NotifyJob, WorkerSocket, nobody};
+use worker_jobs::{ConnectionsJob, ControlJob, DatagramsJob, NotifyJob, WorkerSocket, nobody};
 use zone_replies::{ConnectionHandler, Transfer};
 use zone_server::{
     DatagramHandler, Event, JobEnd, Server, ServerName, ServiceLog, TsigLines, UpdateSender,
@@ -43,6 +43,8 @@ pub enum SocketJob<'a, C> {
     SignedConnections(SignedTcpJob<'a, C>),
     /// Notifies the secondaries of each version.
     Secondaries(NotifyJob<'a, C>),
+    /// Takes the operator's commands.
+    Control(ControlJob<'a, C>),
 }
 
 /// Does a job on a UDP socket, with a handler that answers its requests by a reader, and submits updates by a sender. Gives the reader back, and how the job ended.
@@ -201,6 +203,28 @@ fn serve_secondaries<'g, 's, R: Wait, Z: FirstZone, N: ServerName, L: ServiceLog
     (handler.into_reader(), end)
 }
 
+/// Does a job that takes the operator's commands, with a handler that loads versions for it by a reader, and submits updates by a sender. Gives the reader back, and how the job
+/// ended.
+fn serve_control<'g, 's, R: Wait, Z: FirstZone, N: ServerName, L: ServiceLog, C: Clock>(
+    rt: &R,
+    alloc: Global,
+    server: &'g Server<'s, Z, N>,
+    log: &'g L,
+    sender: UpdateSender<'g>,
+    reader: VersionReader<N>,
+    job: &mut ControlJob<'g, C>,
+) -> (VersionReader<N>, JobEnd)
+    ensures number { job.new.number ≡ job.old.number }
+    ensures seen { BeginsWith result.0.seen reader.seen }
+    ensures end { job.new.end ≡ Some result.1 }
+{
+    let peer = Peer::over(Transport::Udp, false);
+    let handler = DatagramHandler::new(alloc, server, reader, log, peer, nobody());
+    let mut handler = handler.with_sender(sender);
+    let end = job.serve(rt, &mut handler, log);
+    (handler.into_reader(), end)
+}
+
 impl<'g, C: Clock> SocketJob<'g, C> {
     /// Does the job, with a handler that answers requests by a reader, and submits updates by a sender. A job that notifies secondaries submits none. Gives the reader back,
     /// and how the job ended.
@@ -233,6 +257,9 @@ impl<'g, C: Clock> SocketJob<'g, C> {
                 )
             }
             SocketJob::Secondaries(job) => serve_secondaries(rt, alloc, server, log, reader, job),
+            SocketJob::Control(job) => {
+                serve_control(rt, alloc, server, log, sender, reader, job)
+            }
         }
     }
 
@@ -243,6 +270,7 @@ impl<'g, C: Clock> SocketJob<'g, C> {
             SocketJob::Datagrams(_) | SocketJob::SignedDatagrams(_) => Transport::Udp,
             SocketJob::Connections(_) | SocketJob::SignedConnections(_) => Transport::Tcp,
             SocketJob::Secondaries(_) => return Event::Unlogged { end },
+            SocketJob::Control(_) => return Event::ControlEnd { end },
         };
         Event::End {
             worker,
@@ -258,6 +286,7 @@ impl<'g, C: Clock> SocketJob<'g, C> {
             SocketJob::Connections(_) => updates.leave(rt),
             SocketJob::SignedDatagrams(_) => updates.leave(rt),
             SocketJob::SignedConnections(_) => updates.leave(rt),
+            SocketJob::Control(_) => updates.leave(rt),
             SocketJob::Secondaries(_) => {}
         }
     }
@@ -272,6 +301,7 @@ impl<'g, C: Clock> SocketJob<'g, C> {
             SocketJob::SignedDatagrams(signed) => signed.job.number,
             SocketJob::SignedConnections(signed) => signed.job.number,
             SocketJob::Secondaries(job) => job.number,
+            SocketJob::Control(job) => job.number,
         }
     }
 }

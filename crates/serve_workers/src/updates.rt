@@ -23,6 +23,7 @@ fn most_of(spec: &ThreadSpec<'_>, places: usize) -> usize {
         Sockets::Connections(_) => places,
         Sockets::Datagrams(_) => 0,
         Sockets::Secondaries(_) => 0,
+        Sockets::Control(_) => 0,
     }
 }
 
@@ -31,6 +32,7 @@ fn takes_updates(spec: &ThreadSpec<'_>) -> bool {
     match &spec.sockets {
         Sockets::Connections(_) => true,
         Sockets::Datagrams(_) => true,
+        Sockets::Control(_) => true,
         Sockets::Secondaries(_) => false,
     }
 }

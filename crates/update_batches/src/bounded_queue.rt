@@ -80,6 +80,24 @@ impl<T: Drop> BoundedQueue<T> {
         }
     }
 
+    /// Puts one more, of so many octets, before those that wait. It comes back as by [`put`](Self::put).
+    pub fn put_first(&mut self, item: T, octets: usize) -> Result<Put, T>
+        ensures room { IsOk result ↔ HasRoom self.old octets }
+        ensures put { OnOk result (self.new ≡ record self.old { items = (item, octets) ∷ self.old.items }) }
+        ensures full { IfErr result (λ back. (back ≡ item) × (self.new ≡ self.old)) }
+    {
+        if octets > self.most_octets - self.octets {
+            return Err(item);
+        }
+        match self.items.try_push_front((item, octets)) {
+            Ok(()) => {
+                self.octets += octets;
+                Ok(Put(()))
+            }
+            Err((item, _octets)) => Err(item),
+        }
+    }
+
     /// Takes the first that waits, if any does.
     fn take_first(&mut self) -> Option<T>
         ensures first { result ≡ slice_get (items_of self.old) 0 }

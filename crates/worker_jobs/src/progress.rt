@@ -65,6 +65,11 @@ impl Shutdown {
             && !self.is_judging.load(Ordering::SeqCst)
     }
 
+    /// Whether all threads but so many have ended.
+    pub(crate) fn has_left(&self, left: usize) -> bool {
+        self.ended.load(Ordering::SeqCst).saturating_add(left) >= self.threads
+    }
+
     /// From now on the server is to end, because a thread has ended for a reason of its own.
     pub fn end(&self) {
         self.is_ending.store(true, Ordering::SeqCst);

@@ -13,16 +13,18 @@ ghost use Rattle.zone_server.specs.QueuedUpdate.{IsAnswered};
 ghost use Rattle.requests.specs.Served.{Grows};
 
 use crate::answer::serve_update;
+use crate::local_updates::LocalUpdates;
 use crate::notifying::{NextTurn, Notifying};
 use crate::request_answer::{Answer, answer_request};
 use crate::right::ServerName;
 use crate::server::Server;
 use crate::service_log::ServiceLog;
 use crate::signs_later::SignsLater;
-use crate::submit::{DatagramSubmitted, UpdateSender, submit_datagram};
+use crate::submit::{DatagramSubmitted, UpdateSender, submit_datagram, submit_own};
 use crate::telling::{tell_refused, tell_served, tell_signed, tell_update};
 use crate::transfer::answer_transfer;
-use dns_engine::{FirstZone, VersionReader};
+use crate::update_result::Poll;
+use dns_engine::{FirstZone, SharedVersion, VersionReader};
 use dns_message::{Head, Query};
 use dns_rdata::Rcode;
 use notify::Notifier;
@@ -33,6 +35,7 @@ use std::alloc::Global;
 use std::net::SocketAddr;
 use std::sync::Wait;
 use tsig::RequestTsig;
+use update_batches::UpdateRequest;
 use wire_names::NameWriter;
 
 /// Answers the datagrams of peers for a server, with a worker's reader. Contracts know what the reader has seen published and buried. Updates are logged.
@@ -308,5 +311,48 @@ impl<'a, 's, Z: FirstZone, N: ServerName, L: ServiceLog> Notifying
             Some(due) => Ok(NextTurn::Due(due)),
             None => Ok(NextTurn::Look(notifier.next_look(version.number()))),
         }
+    }
+}
+
+impl<'a, 's, Z: FirstZone, N: ServerName, L: ServiceLog> LocalUpdates
+    for DatagramHandler<'a, 's, Z, N, L> {
+    fn last_version<R: Wait>(&mut self, rt: &R) -> Result<SharedVersion, Spent> {
+        let strong = self.server.cell().load(&mut self.reader)?;
+        Ok(strong.get().share(rt))
+    }
+
+    #[tactic(auto, using(requests::proofs::TurnLemmas::grows_itself))]
+    fn hold<R: Wait>(&mut self, rt: &R) {
+        if let Some(sender) = self.sender {
+            sender.queue.hold(rt);
+        }
+    }
+
+    #[tactic(auto, using(requests::proofs::TurnLemmas::grows_itself))]
+    fn release<R: Wait>(&mut self, rt: &R) {
+        if let Some(sender) = self.sender {
+            sender.queue.release(rt);
+        }
+    }
+
+    #[tactic(auto, using(requests::proofs::TurnLemmas::grows_itself))]
+    fn submit_own<R: Wait>(
+        &mut self,
+        rt: &R,
+        request: UpdateRequest,
+        is_held: bool,
+    ) -> Option<usize> {
+        let sender = self.sender?;
+        submit_own(rt, self.server, &mut self.reader, sender, request, is_held)
+    }
+
+    fn result_at<R: Wait>(&mut self, rt: &R, ticket: usize) -> Poll {
+        let (_, fetched) = self.server.fetch(rt, &mut self.reader, ticket);
+        fetched
+    }
+
+    #[tactic(auto, using(requests::proofs::TurnLemmas::grows_itself))]
+    fn leave<R: Wait>(&mut self, rt: &R, ticket: usize) {
+        self.server.leave(rt, ticket);
     }
 }

@@ -15,6 +15,7 @@
 
 mod answer;
 mod datagram_handler;
+mod local_updates;
 mod notifying;
 mod open_ticket;
 mod outgoing;
@@ -38,6 +39,7 @@ mod update_result;
 
 pub use answer::{Now, UpdateOutcome, answer_now, serve_update};
 pub use datagram_handler::DatagramHandler;
+pub use local_updates::LocalUpdates;
 pub use notifying::{NextTurn, Notifying};
 pub use open_ticket::OpenTicket;
 pub use outgoing::Outgoing;

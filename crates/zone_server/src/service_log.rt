@@ -29,6 +29,17 @@ pub enum Event {
         /// The update's own serials, those of the zone before and after it. None if its code is not NOERROR.
         serials: Option<Serials>,
     },
+    /// The zone's text was read again, and its zone published in place of the one before.
+    Reloaded {
+        /// The serials of the zone before and after it.
+        serials: Serials,
+        /// How many records went, the SOA not counted.
+        deleted: usize,
+        /// How many records came, the SOA not counted.
+        added: usize,
+    },
+    /// The zone's text was to be read again, and the zone is the one before, for this reason.
+    NotReloaded(String),
     /// A peer's request was refused for lack of permission (RFC 2136, 3.3; RFC 5936, 2.2.1).
     Refused {
         /// The peer's address.
@@ -85,6 +96,11 @@ pub enum Event {
     Again {
         /// Its address and port.
         secondary: SocketAddr,
+    },
+    /// The thread that takes the operator's commands has ended.
+    ControlEnd {
+        /// The reason why it ended.
+        end: JobEnd,
     },
     /// The thread that notifies secondaries has ended.
     Unlogged {
@@ -159,6 +175,18 @@ impl Display for Event {
                 write!(f, "update from {from}: {code}")?;
                 write_serials(f, *serials)
             }
+            Event::Reloaded {
+                serials,
+                deleted,
+                added,
+            } => {
+                let (before, after) = (serials.before.0, serials.after.0);
+                write!(
+                    f,
+                    "reload: serial {before} to {after}, {deleted} records deleted, {added} added"
+                )
+            }
+            Event::NotReloaded(reason) => write!(f, "reload failed: {reason}"),
             Event::Refused {
                 from,
                 wanted,
@@ -215,6 +243,10 @@ impl Display for Event {
             }
             Event::Again { secondary } => {
                 write!(f, "secondary {secondary} answers NOTIFY again")
+            }
+            Event::ControlEnd { end } => {
+                f.write_str("control thread exited: ")?;
+                write_control(f, *end)
             }
             Event::Unlogged { end } => {
                 f.write_str("notify thread exited: ")?;
@@ -298,6 +330,14 @@ fn write_end<W: fmt::Write>(f: &mut Formatter<W>, end: JobEnd) -> fmt::Result {
 fn write_unlogged<W: fmt::Write>(f: &mut Formatter<W>, end: JobEnd) -> fmt::Result {
     match end {
         JobEnd::Done(count) => write!(f, "{count} NOTIFYs sent"),
+        other => write_end(f, other),
+    }
+}
+
+/// Writes the reason why the thread that takes commands ended.
+fn write_control<W: fmt::Write>(f: &mut Formatter<W>, end: JobEnd) -> fmt::Result {
+    match end {
+        JobEnd::Done(count) => write!(f, "{count} commands served"),
         other => write_end(f, other),
     }
 }

@@ -1,12 +1,12 @@
 //! Submitting updates to the update thread, which judges them and makes them survive a restart (RFC 2136, 3 and 3.5).
-ghost use Rattle.std.specs.Prelude.{◌≡◌, ◌-◌, ◌^◌, ◌≤◌, true, [], ◌∷◌, length, take, min, None, IfSome};
+ghost use Rattle.std.specs.Prelude.{◌≡◌, ◌-◌, ◌^◌, ◌≤◌, ℕ, true, [], ◌∷◌, length, take, min, None, IfSome};
 ghost use Rattle.dns_rdata.specs.declared.numbers.Rcode.TheVariants.{ServFail};
 ghost use Rattle.dns_message.specs.Octets.{fit};
 ghost use Rattle.serve_core.specs.Heading.{heading_of_update, coded};
 ghost use Rattle.dns_message.specs.Request.{reads};
 ghost use Rattle.dns_message.specs.declared.query.Parsed.TheVariants.{Update as SaysUpdate};
 ghost use Rattle.serve_core.specs.Transport.{room_of, limit_of};
-ghost use Rattle.zone_server.specs.QueuedUpdate.{memory_of, IsSubmitted, IsDatagramSubmitted};
+ghost use Rattle.zone_server.specs.QueuedUpdate.{memory_of, IsSubmitted, IsDatagramSubmitted, MeetsAt};
 ghost use Rattle.zone_server.specs.Replied.{IsUpdate};
 
 use crate::answer::{UpdateOutcome, read_update};
@@ -171,6 +171,58 @@ pub fn submit_stream<R: Wait, Z: FirstZone, N: ServerName>(
     }
     let (len, outcome) = refuse(&heading, peer, out);
     Submitted::Replied(len, outcome)
+}
+
+/// Submits an update that the server makes itself, and gives the ticket at which its result will be: after all that wait, or, where the queue is held, before them, and releases it.
+/// None if there is no memory for that, or the queue has no room. It is counted as of no octets, since there is one at a time, and it may be larger than all that peers may have in
+/// the queue (own).
+pub(crate) fn submit_own<R: Wait, Z: FirstZone, N: ServerName>(
+    rt: &R,
+    server: &Server<'_, Z, N>,
+    reader: &mut VersionReader<N>,
+    sender: UpdateSender<'_>,
+    request: UpdateRequest,
+    is_held: bool,
+) -> Option<usize>
+    requires may { request.may ≡ true }
+    ensures met { (number : ℕ) × MeetsAt Z.zone reader.old reader.new number }
+{
+    let (_, opened) = server.open(rt, reader);
+    let Some(opened) = opened else {
+        sender.queue.release(rt);
+        return None;
+    };
+    let reply_to = ReplyTo::Connection {
+        worker: sender.worker,
+        key: 0,
+        ticket: opened.number(),
+    };
+    match put_own(
+        rt,
+        sender.queue,
+        QueuedUpdate { request, reply_to },
+        is_held,
+    ) {
+        Ok(put) => Some(opened.waits(&put)),
+        Err(_back) => {
+            server.close(rt, opened);
+            None
+        }
+    }
+}
+
+/// Puts an update that the server makes itself after all that wait, or before them.
+fn put_own<R: Wait>(
+    rt: &R,
+    queue: &Queue<QueuedUpdate>,
+    update: QueuedUpdate,
+    is_held: bool,
+) -> Result<Put, QueuedUpdate> {
+    if is_held {
+        queue.put_first(rt, update, 0)
+    } else {
+        queue.put(rt, update, 0)
+    }
 }
 
 /// Submits an update of a peer that may update, which came by datagram, with this TSIG if it was signed. It is answered at once in the same cases as by [`submit_stream`].

@@ -1,0 +1,71 @@
+//! The operator's commands to a running server: its control socket, and the thread that reads the zone file again for a reload.
+use command_line::Serve;
+use commands::Source;
+use dnsd_setup::{FileReader, bind_control_at, prepare_reloads, remove_control};
+use serve_workers::ControlPlan;
+use std::fs::{File, Files};
+use std::io;
+use std::net::Net;
+use std::os::unix::net::UnixListener;
+use std::rt::Env;
+
+/// That a socket can't be listened on; standard error has the reason.
+#[derive(Clone, Copy)]
+pub struct NotBound;
+
+/// Binds the control socket, if there is to be one, and starts the thread that reads the zone file for reloads, by `start`. What a thread needs that takes commands.
+/// An error is lack of memory, or of a thread.
+pub fn control_for<
+    R: Files<File = File> + Env + Eprint + AllocGlobal + Net,
+    S: Fn(FileReader) -> io::Result<()>,
+>(rt: &R, serve: &Serve<'_>, start: &S) -> io::Result<Result<Option<ControlPlan>, NotBound>>
+    requires { (f : _) (x : _) → S.pre f x }
+{
+    let Some(path) = serve.control else {
+        return Ok(Ok(None));
+    };
+    let listener = match bind_control_at(rt, path) {
+        Ok(Some(listener)) => listener,
+        Ok(None) => return Ok(Err(NotBound)),
+        Err(fault) => return Err(fault),
+    };
+    match plan_for(rt, serve, listener, start) {
+        Ok(plan) => Ok(Ok(Some(plan))),
+        Err(fault) => {
+            remove_control(rt, path);
+            Err(fault)
+        }
+    }
+}
+
+/// What a thread needs that takes commands on a socket.
+fn plan_for<R: AllocGlobal, S: Fn(FileReader) -> io::Result<()>>(
+    rt: &R,
+    serve: &Serve<'_>,
+    listener: UnixListener,
+    start: &S,
+) -> io::Result<ControlPlan>
+    requires { (f : _) (x : _) → S.pre f x }
+{
+    let reloads = match serve.zone {
+        Source::Input => None,
+        Source::File(path) => {
+            let (slot, reader) = prepare_reloads(rt.alloc(), path, &serve.origin)?;
+            start(reader)?;
+            Some(slot)
+        }
+    };
+    let beside = if serve.secondaries.is_empty() { 1 } else { 2 };
+    Ok(ControlPlan {
+        listener,
+        reloads,
+        beside,
+    })
+}
+
+/// Removes the control socket, which was bound, if there was to be one.
+pub fn unbind_control<R: Files<File = File>>(rt: &R, serve: &Serve<'_>) {
+    if let Some(path) = serve.control {
+        remove_control(rt, path);
+    }
+}

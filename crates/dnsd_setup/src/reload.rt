@@ -1,0 +1,144 @@
+//! The thread that reads the zone file again while its zone is served.
+
+use commands::Fault;
+use dns_engine::SharedVersion;
+use dns_name::Name;
+use master_file::{FileFault, read_zone};
+use std::alloc::{AllocError, Global};
+use std::fs::{self, Files};
+use std::io;
+use std::sync::{Arc, Wait};
+use update_messages::PrepareFault;
+use worker_jobs::{ReloadOrder, ReloadResult, ReloadSlot, Reloads, file_zone};
+use zone_tree::Zone;
+
+/// Reads the zone file again whenever a reload is ordered. It is for a thread of its own.
+pub struct FileReader {
+    slot: Reloads,
+    file: ZoneFile,
+}
+
+impl Drop for FileReader {
+    fn drop(self) {
+        let FileReader { slot: _, file: _ } = self;
+    }
+}
+
+/// What is read.
+struct ZoneFile {
+    path: String,
+    origin: Name,
+}
+
+impl Drop for ZoneFile {
+    fn drop(self) {
+        let ZoneFile { path: _, origin: _ } = self;
+    }
+}
+
+/// Where reloads of the zone file at a path are ordered, and what reads it, with this origin. Fails if there is not enough memory.
+pub fn prepare_reloads(
+    alloc: Global,
+    path: &str,
+    origin: &Name,
+) -> Result<(Reloads, FileReader), AllocError> {
+    let slot = Arc::new(alloc, ReloadSlot::new())?;
+    let own = Arc::try_clone(&slot)?;
+    let file = ZoneFile {
+        path: format!(in alloc; "{path}")?,
+        origin: origin.copy(),
+    };
+    Ok((slot, FileReader { slot: own, file }))
+}
+
+impl FileReader {
+    /// Does what is ordered, until nothing is any more.
+    pub fn run<R: Files + AllocGlobal + Wait>(self, rt: &R) {
+        let mut read: Option<Zone> = None;
+        for _ in rt.forever() {
+            let Some(order) = self.slot.wait(rt) else {
+                return;
+            };
+            self.obey(rt, order, &mut read);
+        }
+        unreachable!()
+    }
+
+    /// Does what is ordered. The zone that was read last stays until it is to be dropped.
+    fn obey<R: Files + AllocGlobal + Wait>(
+        &self,
+        rt: &R,
+        order: ReloadOrder,
+        read: &mut Option<Zone>,
+    ) {
+        match order {
+            ReloadOrder::Drop => {
+                *read = None;
+                self.slot.rest(rt);
+            }
+            ReloadOrder::Read(served) => {
+                *read = None;
+                let made = read_anew(rt, &self.file, &served, read);
+                self.slot.put(rt, made);
+            }
+            ReloadOrder::Again(served) => {
+                let made = made_of(rt.alloc(), &served, read);
+                self.slot.put(rt, made);
+            }
+        }
+    }
+}
+
+/// Reads the file, and makes its update of the zone that is served.
+fn read_anew<R: Files + AllocGlobal>(
+    rt: &R,
+    file: &ZoneFile,
+    served: &SharedVersion,
+    read: &mut Option<Zone>,
+) -> ReloadResult {
+    let alloc = rt.alloc();
+    let text = match fs::read(rt, file.path.as_str()) {
+        Ok(text) => text,
+        Err(fault) => return Err(unread(alloc, &file.path, &fault)),
+    };
+    match read_zone(alloc, &text, &file.origin) {
+        Ok(zone) => *read = Some(zone),
+        Err(fault) => return Err(no_zone(alloc, fault)),
+    }
+    made_of(alloc, served, read)
+}
+
+/// What the zone that was read makes of the zone that is served, or why it is refused.
+fn made_of(alloc: Global, served: &SharedVersion, read: &Option<Zone>) -> ReloadResult {
+    let Some(zone) = read else {
+        return Err(String::new(alloc));
+    };
+    match file_zone(alloc, served.get().zone(), zone) {
+        Ok(made) => Ok(made),
+        Err(fault) => Err(reason_of(alloc, fault).unwrap_or(String::new(alloc))),
+    }
+}
+
+/// That a file can't be read.
+fn unread(alloc: Global, path: &str, fault: &io::Error) -> String {
+    format!(in alloc; "the zone's file '{path}' can't be read: {fault}").unwrap_or(String::new(
+        alloc,
+    ))
+}
+
+/// Why a file's text is no zone.
+fn no_zone(alloc: Global, fault: FileFault) -> String {
+    let fault = Fault::Zone(fault);
+    format!(in alloc; "{fault}").unwrap_or(String::new(alloc))
+}
+
+/// Why no update is made of a file's zone, in words.
+fn reason_of(alloc: Global, fault: PrepareFault) -> Result<String, AllocError> {
+    match fault {
+        PrepareFault::Change(fault) => format!(in alloc; "{fault}"),
+        PrepareFault::TooLarge => format!(in alloc;
+            "the change has more records than one update may have: stop the server, and start it with --take zone"
+        ),
+        PrepareFault::NoMemory => format!(in alloc; "out of memory"),
+    }
+}

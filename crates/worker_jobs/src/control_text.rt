@@ -1,0 +1,106 @@
+//! The replies to an operator's commands, as text.
+use dns_rdata::{Rcode, Serial};
+use std::alloc::{AllocError, Global};
+use zone_change::ChangeSummary;
+use zone_tree::{Version, Zone, ZoneRead};
+
+/// The last line of a reply where the command is done.
+const DONE_LINE: &str = "ok\n";
+
+/// A reply of the one line that says that the command is done.
+pub(crate) fn done(alloc: Global) -> Result<String, AllocError> {
+    let mut text = String::new(alloc);
+    text.push_str(DONE_LINE)?;
+    Ok(text)
+}
+
+/// A reply of the one line that says why the command isn't done.
+pub(crate) fn failed(alloc: Global, reason: &str) -> Result<String, AllocError> {
+    let mut text = String::new(alloc);
+    write!(text, "error: {reason}\n")?;
+    Ok(text)
+}
+
+/// What is served, a line for each of it.
+pub(crate) fn status(alloc: Global, version: &Version, uptime: u64) -> Result<String, AllocError> {
+    let zone = version.zone();
+    let (apex, serial, records) = (zone.apex(), zone.serial().0, count_of(zone));
+    let (apex, number) = (apex.to_text(), version.number());
+    let mut text = String::new(alloc);
+    write!(text, "zone {apex}\nserial {serial}\nrecords {records}\n")?;
+    write!(text, "version {number}\nuptime {uptime}\n")?;
+    text.push_str(DONE_LINE)?;
+    Ok(text)
+}
+
+/// The server's numbers, as lines for Prometheus.
+pub(crate) fn stats(alloc: Global, version: &Version) -> Result<String, AllocError> {
+    let zone = version.zone();
+    let (apex, serial, records) = (zone.apex(), zone.serial().0, count_of(zone));
+    let (apex, number) = (apex.to_text(), version.number());
+    let mut text = String::new(alloc);
+    write!(text, "dnsd_zone_serial{{zone=\"{apex}\"}} {serial}\n")?;
+    write!(text, "dnsd_zone_records{{zone=\"{apex}\"}} {records}\n")?;
+    write!(
+        text,
+        "dnsd_zone_versions_total{{zone=\"{apex}\"}} {number}\n"
+    )?;
+    text.push_str(DONE_LINE)?;
+    Ok(text)
+}
+
+/// What a reload changed.
+pub(crate) fn reloaded(alloc: Global, summary: &ChangeSummary) -> Result<String, AllocError> {
+    let ChangeSummary {
+        from,
+        to,
+        given,
+        deleted,
+        added,
+    } = summary;
+    let (from, to, given) = (from.0, to.0, given.0);
+    let mut text = String::new(alloc);
+    if given != to {
+        write!(
+            text,
+            "serial {given} of ZONE isn't greater than {from}: {to} is served\n"
+        )?;
+    }
+    write!(
+        text,
+        "serial {from} to {to}, {deleted} records deleted, {added} added\n"
+    )?;
+    text.push_str(DONE_LINE)?;
+    Ok(text)
+}
+
+/// That a reload changes nothing.
+pub(crate) fn unchanged(alloc: Global, serial: Serial) -> Result<String, AllocError> {
+    let serial = serial.0;
+    let mut text = String::new(alloc);
+    write!(text, "nothing to change, serial {serial}\n")?;
+    text.push_str(DONE_LINE)?;
+    Ok(text)
+}
+
+/// Why a reload's update was refused.
+pub(crate) fn refused(alloc: Global, code: Rcode) -> Result<String, AllocError> {
+    let mut reason = String::new(alloc);
+    let number = code.number();
+    match code {
+        Rcode::ServFail => reason.push_str(
+            "the update got SERVFAIL: there is no memory or no room for it, or the store can't be written",
+        )?,
+        _ => write!(reason, "the update got code {number}")?,
+    }
+    Ok(reason)
+}
+
+/// How many records a zone has.
+fn count_of(zone: &Zone) -> usize {
+    let mut records = 0usize;
+    for set in zone.walk() {
+        records = records.saturating_add(set.data().len());
+    }
+    records
+}
