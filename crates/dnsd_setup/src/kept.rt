@@ -12,7 +12,9 @@ use std::fs::{File, Files};
 use std::io;
 use std::random::RandomSource;
 use std::rt::Env;
+use std::sync::Arc;
 use store_server::{Given, Refusal, Served, Started, TakenZone, start_store};
+use update_batches::StoreState;
 use zone_change::ChangeSummary;
 
 /// The number of secret octets at the start of a new journal.
@@ -56,10 +58,12 @@ fn started_in<R: Env + Eprint + AllocGlobal>(
 {
     tell_started(rt, plan.dir, &started)?;
     let dir = format!(in rt.alloc(); "{}", plan.dir)?;
+    let state = Arc::new(rt.alloc(), StoreState::new())?;
     Ok(StartedZone::Store(StartedStore {
         dir,
         journal: plan.journal,
         started,
+        state,
     }))
 }
 
