@@ -45,10 +45,8 @@ fn state_is_what_was_shown_last(rt: HostRuntime) -> Result<(), Fail> {
     assert!(rt; seen(&rt, &state)? == shown(&rt, 0, 0, None)?);
     state.show_journal(156, 3);
     state.show_fault(&rt, Some(format!(in alloc; "the journal is full")?));
-    assert_eq!(&rt;
-        seen(&rt, &state)?,
-        shown(&rt, 156, 3, Some("the journal is full"))?
-    );
+    let full = shown(&rt, 156, 3, Some("the journal is full"))?;
+    assert!(rt; seen(&rt, &state)? == full);
     state.show_fault(&rt, None);
     state.show_journal(4096, 4);
     assert!(rt; seen(&rt, &state)? == shown(&rt, 4096, 4, None)?);
