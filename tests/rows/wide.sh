@@ -36,6 +36,20 @@ takes <zones/example.test.zone
 prints "${input%$'\n'}" check --wide -
 prints "${input%$'\n'}" check --wide --origin example.test. -
 
+# a byte order mark in front of the text is passed over, of a directive, a comment and a record; one after it isn't
+two=$'x. 60 IN SOA a.x. b.x. 1 2 3 4 5\nx. 60 IN NS a.x.'
+while IFS= read -r line; do
+    input=$'\xef\xbb\xbf'${line% => *}$'\n@ 60 SOA a b 1 2 3 4 5\n@ 60 NS a\n'
+    prints "$two${line##* =>}" check --wide --origin x. -
+done <<'end'
+$TTL 60 =>
+; a zone =>
+end
+input=$'\xef\xbb\xbf@ 60 TXT "a"\n@ 60 SOA a b 1 2 3 4 5\n@ 60 NS a\n'
+prints "$two"$'\nx. 60 IN TXT "a"' check --wide --origin x. -
+input=$'\xef\xbb\xbf\xef\xbb\xbf@ 60 SOA a b 1 2 3 4 5\n@ 60 NS a\n'
+refuses 1 'line 0: M11 Apex' check --wide --origin x. -
+
 # times: numbers with units, one or more, in any case and order, added up; m is a minute. Directives in any case
 wide '' <<'end'
 $Origin x.
@@ -194,7 +208,16 @@ mkdir "$room/wide"
 row 0 "created the store '$room/wide' from ZONE" serve --wide --listen 127.0.0.1:0 --workers 1 --count 0 --origin x. --store "$room/wide" "$room/zone"
 tries serve --wide --listen 127.0.0.1:0 --workers 1 --count 0 --origin x. --store "$room/wide" "$room/zone"
 [[ $got == 0 && $told != *ignoring* && $told == *'x. with serial 1, 4 records'* ]] || differs 'the store of the same file' serve --wide --store
-# a file that is refused needs the store to be chosen
+# the store is changed to another file, and found by the next start of that file; without the option the file is refused, and the store stays
+row 0 "serving ZONE; changed the store '$room/wide' to it: serial 1 to 2, 0 records deleted, 1 added" serve --wide --listen 127.0.0.1:0 --workers 1 --count 0 --origin x. --store "$room/wide" --take zone "$room/next"
+tries serve --wide --listen 127.0.0.1:0 --workers 1 --count 0 --origin x. --store "$room/wide" "$room/next"
+[[ $got == 0 && $told != *ignoring* && $told == *'x. with serial 2, 5 records'* ]] || differs 'the store of the same file' serve --wide --store
+row 1 'line 1: M3 Number' serve --listen 127.0.0.1:0 --workers 1 --count 0 --origin x. --store "$room/wide" "$room/next"
+row 0 'b.x. 300 IN TYPE257 \# 8 000569737375653b' zone "$room/wide"
+# a file that is refused needs the store to be chosen; where there is none, its own fault is told
 echo 'x. 1h30 A 192.0.2.1' >>"$room/zone"
 row 1 'line 11: M5 UnknownType' serve --wide --listen 127.0.0.1:0 --workers 1 --count 0 --origin x. --store "$room/wide" "$room/zone"
 row 0 'ignoring ZONE' serve --wide --listen 127.0.0.1:0 --workers 1 --count 0 --origin x. --store "$room/wide" --take store "$room/zone"
+rm -rf "$room/wide"
+mkdir "$room/wide"
+row 1 'line 11: M5 UnknownType' serve --wide --listen 127.0.0.1:0 --workers 1 --count 0 --origin x. --store "$room/wide" --take store "$room/zone"
