@@ -2,7 +2,7 @@
 """Tries reloads of a zone's file while its zone is served (`dnsd control PATH reload`). A reload is one update: the zone before or the zone of the file, at one version,
 with one frame of the journal and one NOTIFY, whatever its size; secondaries get it by IXFR. Beside queries, transfers, updates and reloads, each whole transfer is one of
 the zones that were deployed, with the updates that were answered since, and never a part. Killed at random moments of reloads, the store has the zone before or that of
-the file. A second reload meanwhile, a file that is no zone and another apex are refused, and change nothing; the socket is its owner's alone, and a client that says nothing
+the file. With --wide it is read as at the start. A second reload meanwhile, a file that is no zone and another apex are refused, and change nothing; the socket is its owner's alone, and a client that says nothing
 stops nothing. Usage: [DNSD=PROGRAM] tests/reload.py [KILLS [RECORDS [HOSTS]]], by default 20 kills, 100,000 records in the one large change, and 2,000 hosts in the
 zones that are reloaded beside queries, by the program crates/dnsd/out/dnsd; a program compiled with checks is slower, and needs fewer. It listens on 127.0.0.1 alone. Its status is 1 where something failed."""
 import os
@@ -250,6 +250,39 @@ def tries_lost_store(room, server):
     written(f"{room}/zone", zone_text(1, 1, 3))
 
 
+def wide_text(serial, more):
+    """A zone file of this serial under x., as other servers read it, with so much behind it."""
+    return f"$ttl 1h\n@ SOA ns admin {serial} 2h 15m 2w 5m\n NS ns\nns A 192.0.2.1\nns RRSIG A 13 2 3600 20260102000000 20260101000000 1 x. AAAA\n{more}"
+
+
+def tries_wide(room):
+    """With --wide the file is read at a reload as at the start, and by --take zone; the next start of the same file finds its store again."""
+    words = ("--wide", "--origin", "x.", "--store", f"{room}/store")
+    written(f"{room}/zone", wide_text(1, ""))
+    server = Server(room, *words)
+    report(server.ask("reload") == (0, "nothing to change, serial 1\n", ""), "--wide: a reload of the same file changes nothing")
+    written(f"{room}/zone", wide_text(2, 'a 5m CAA 0 issue ";"\n'))
+    report(server.ask("reload") == (0, "serial 1 to 2, 0 records deleted, 1 added\n", ""), "a reload of times with units and a CAA")
+    written(f"{room}/zone", wide_text(3, "\na 1h30 A 192.0.2.1\n"))
+    report(server.ask("reload") == (1, "", "error: line 7: M5 UnknownType\n"), "a file that is refused, by its line")
+    server.stop()
+    has_caa = "a.x. 300 IN TYPE257 \\# 8 000569737375653b\n"
+    report(caa_of(room) == [has_caa], f"the store has the file's zone: {zone_of(room)!r}")
+    written(f"{room}/zone", wide_text(2, "a 5m CAA 0 issue ca.example\n"))
+    server = Server(room, *words, "--take", "zone")
+    server.stop()
+    report(any("changed the store" in line and "serial 2 to 3, 1 records deleted, 1 added" in line for line in server.lines), f"--take zone: {server.lines}")
+    server = Server(room, *words)
+    server.stop()
+    report(not any("ZONE" in line for line in server.lines), f"the next start of the same file finds its store: {server.lines}")
+    report(caa_of(room) == ["a.x. 300 IN TYPE257 \\# 17 0005697373756563612e6578616d706c65\n"], f"with its zone: {zone_of(room)!r}")
+
+
+def caa_of(room):
+    """The lines of a store's CAA records."""
+    return [line for line in zone_of(room).splitlines(True) if " TYPE257 " in line]
+
+
 def tries_large(room, records):
     """A change of so many records is one version, one frame and one NOTIFY, and an IXFR has it."""
     written(f"{room}/zone", zone_text(1, 1, records))
@@ -362,6 +395,7 @@ def main():
     hosts = int(sys.argv[3]) if len(sys.argv) > 3 else 2_000
     tried = (
         tries_commands,
+        tries_wide,
         lambda room: tries_large(room, records // 2),
         lambda room: tries_beside(room, 15, hosts),
         lambda room: tries_kills(room, kills, hosts * 5 // 2),

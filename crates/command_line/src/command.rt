@@ -26,6 +26,8 @@ pub enum Task<'a> {
         has_origin: bool,
         /// Whether warnings of its zone's text are requested.
         has_warnings: bool,
+        /// Whether its zone's text is read as other servers read zone files.
+        is_wide: bool,
     },
     /// Serves a zone on sockets.
     Serve(Serve<'a>),
@@ -50,6 +52,7 @@ impl<'a> Drop for Task<'a> {
                 command: _,
                 has_origin: _,
                 has_warnings: _,
+                is_wide: _,
             } => {}
             Task::Serve(_) => {}
             Task::Stored(_) => {}
@@ -70,6 +73,8 @@ pub struct Change<'a> {
     pub next: Source<'a>,
     /// The origin at the start of both texts.
     pub origin: Name,
+    /// Whether both texts are read as other servers read zone files.
+    pub is_wide: bool,
     /// Whether the update is printed as a message in hexadecimal, in place of the records.
     pub is_hex: bool,
 }
@@ -80,6 +85,7 @@ impl<'a> Drop for Change<'a> {
             old: _,
             next: _,
             origin: _,
+            is_wide: _,
             is_hex: _,
         } = self;
     }
@@ -93,6 +99,8 @@ pub struct Deploy<'a> {
     pub zone: Source<'a>,
     /// The origin at the start of the text.
     pub origin: Name,
+    /// Whether the text is read as other servers read zone files.
+    pub is_wide: bool,
     /// The file whose first key signs what is sent. None where it isn't signed.
     pub key: Option<&'a str>,
     /// Whether what would change is printed, and no update is sent.
@@ -105,6 +113,7 @@ impl<'a> Drop for Deploy<'a> {
             server: _,
             zone: _,
             origin: _,
+            is_wide: _,
             key: _,
             is_dry: _,
         } = self;
@@ -177,6 +186,7 @@ fn task_of<'a>(
         command: command_of(name, found, zone, origin)?,
         has_origin: found.get_str(ORIGIN).is_some(),
         has_warnings: name == "check" && found.get_flag(WARN),
+        is_wide: name == "check" && found.get_flag(WIDE),
     })
 }
 
@@ -194,6 +204,7 @@ fn change_of<'a>(found: &ArgMatches<'a>, origin: Name) -> Change<'a> {
         old: text_source(found.get_str(OLD)),
         next: text_source(found.get_str(NEW)),
         origin,
+        is_wide: found.get_flag(WIDE),
         is_hex: found.get_flag(HEX),
     }
 }
@@ -212,6 +223,7 @@ fn deploy_of<'a>(
         server,
         zone,
         origin,
+        is_wide: found.get_flag(WIDE),
         key: found.get_str(KEY),
         is_dry: found.get_flag(DRY_RUN),
     })
@@ -301,6 +313,9 @@ pub const COMMAND_WORD: &str = "command";
 
 /// The option for warnings of a zone's text.
 pub const WARN: &str = "warn";
+
+/// The option for zone files as other servers take them.
+pub const WIDE: &str = "wide";
 
 /// The option for the update's message.
 pub const HEX: &str = "hex";

@@ -4,7 +4,7 @@ ghost use Rattle.std.specs.Result.{IsOkAnd};
 ghost use Rattle.command_line.specs.Patience.{IsPatience};
 ghost use Rattle.transfer_core.specs.declared.kept.TheConstants.{KEPT};
 
-use crate::command::{KEEP, MAX_KEEP, ORIGIN, number_for};
+use crate::command::{KEEP, MAX_KEEP, ORIGIN, WIDE, number_for};
 use crate::fault::CommandFault;
 use crate::key_rules::KeyRules;
 use crate::may::served_rules;
@@ -29,6 +29,8 @@ pub struct Serve<'a> {
     pub origin: Name,
     /// Whether the origin was given; if not, it is the root by default.
     pub has_origin: bool,
+    /// Whether the text is read as other servers read zone files.
+    pub is_wide: bool,
     /// The addresses and ports to listen on, each by UDP and TCP.
     pub listen: Vec<SocketAddr>,
     /// The number of workers. Each has a thread for connections, and one for the datagrams of each address.
@@ -74,6 +76,7 @@ impl<'a> Drop for Serve<'a> {
             zone: _,
             origin: _,
             has_origin: _,
+            is_wide: _,
             listen: _,
             workers: _,
             keep: _,
@@ -171,6 +174,7 @@ pub fn serve_of<'a>(
         zone,
         origin,
         has_origin: found.get_str(ORIGIN).is_some(),
+        is_wide: found.get_flag(WIDE),
         listen,
         workers,
         keep,

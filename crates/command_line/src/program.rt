@@ -1,7 +1,7 @@
 //! The program's commands, and the arguments of each.
 use crate::command::{
     ADDRESS, BEFORE_FAULT, COMMAND_WORD, DIR, DRY_RUN, HEX, KEEP, NEW, OLD, ORIGIN, PATH, REQUEST,
-    SERVER, TCP, WARN, WINDOW, ZONE,
+    SERVER, TCP, WARN, WIDE, WINDOW, ZONE,
 };
 use crate::may::{ALLOW, KEY, MAY};
 use crate::options::{CONNECTIONS, CONTROL, COUNT, IDLE, KEYS, LISTEN, MESSAGE, REPLY, WORKERS};
@@ -69,6 +69,13 @@ const ZONE_ROW: WordRow = WordRow {
     name: ZONE,
     form: Form::Word("ZONE"),
     help: "text of the zone: a file, or - for standard input up to a line %",
+};
+
+/// The option for zone files as other servers take them.
+const WIDE_ROW: WordRow = WordRow {
+    name: WIDE,
+    form: Form::Flag,
+    help: "read zone files as other servers do: times with units, such as 1h30m, and words of more types, such as CAA; leave out RRSIG, NSEC, NSEC3 and NSEC3PARAM records",
 };
 
 /// The argument for a store's directory.
@@ -166,6 +173,7 @@ const ANSWER_WORDS: &[WordRow] = &[
 /// The arguments of `check`.
 const CHECK_WORDS: &[WordRow] = &[
     ORIGIN_ROW,
+    WIDE_ROW,
     ZONE_ROW,
     WordRow {
         name: WARN,
@@ -193,6 +201,7 @@ const STEPS_WORDS: &[WordRow] = &[
 /// The arguments of `change`.
 const CHANGE_WORDS: &[WordRow] = &[
     ORIGIN_ROW,
+    WIDE_ROW,
     WordRow {
         name: HEX,
         form: Form::Flag,
@@ -213,6 +222,7 @@ const CHANGE_WORDS: &[WordRow] = &[
 /// The arguments of `deploy`.
 const DEPLOY_WORDS: &[WordRow] = &[
     ORIGIN_ROW,
+    WIDE_ROW,
     WordRow {
         name: KEY,
         form: Form::Value("FILE"),
@@ -290,6 +300,7 @@ const MAY_WORDS: &[WordRow] = &[
 /// The arguments of `serve`.
 const SERVE_WORDS: &[WordRow] = &[
     ORIGIN_ROW,
+    WIDE_ROW,
     ZONE_ROW,
     WordRow {
         name: LISTEN,

@@ -34,7 +34,7 @@ pub use command::{Command, Source};
 pub use fault::{DONE, FAILED, Fault, REFUSED};
 pub use input::{MAX_READS, endless, read_zone_text};
 pub use lines::{Line, Lines, MAX_REQUEST, lines_of, without_end, without_lf};
-pub use report::{report_fault, report_fault_of};
+pub use report::{report_fault, report_fault_of, report_wide_fault};
 pub use run::{Ended, Outcome, run_text, run_with_zone};
 pub use script_fault::StepsFault;
 pub use steps::run_steps;

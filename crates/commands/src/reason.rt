@@ -31,6 +31,26 @@ pub fn reason(
     Ok(reason)
 }
 
+/// The meaning of a fault of a zone file that is read as other servers read them: the file and the line, if the text is from a file; what is wrong; and
+/// the line of the text.
+///
+/// An error is an allocation that was refused.
+pub fn wide_reason(
+    alloc: Global,
+    fault: FileFault,
+    source: Source<'_>,
+    text: &[u8],
+) -> Result<String, AllocError> {
+    let mut reason = String::new(alloc);
+    push_place(&mut reason, source, fault.line)?;
+    reason.push_str(wide_reason_of(fault))?;
+    if let Some(found) = seen_at(alloc, fault, text)? {
+        reason.push_str(": ")?;
+        push_quoted(&mut reason, found.line)?;
+    }
+    Ok(reason)
+}
+
 /// Appends the name of a file, and a line number if there is one.
 fn push_place(to: &mut String, source: Source<'_>, line: u64) -> Result<(), AllocError> {
     match source {
@@ -113,6 +133,17 @@ pub fn reason_of(fault: FileFault) -> &'static str {
             "more than 1000000 records, 256 records of an owner and type, or 4096 octets of data"
         }
         Cause::NoMemory => "the zone needs more memory than there is",
+    }
+}
+
+/// The meaning of a fault of a zone file that is read as other servers read them, in words.
+pub fn wide_reason_of(fault: FileFault) -> &'static str {
+    match fault.cause {
+        Cause::Directive => {
+            "a directive is due, $ORIGIN or $TTL with its argument; named-compilezone -q -o - ZONE FILE writes out the others"
+        }
+        Cause::UnknownType => "a type is due, by a name that is known here or by its number",
+        _ => reason_of(fault),
     }
 }
 

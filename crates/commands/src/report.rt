@@ -5,7 +5,7 @@ ghost use Rattle.commands.specs.Report.{IsReported, AppendsSome};
 
 use crate::command::Source;
 use crate::fault::{DONE, FAILED, Fault};
-use crate::reason::{reason, reason_of, reason_of_transfer};
+use crate::reason::{reason, reason_of, reason_of_transfer, wide_reason, wide_reason_of};
 use crate::whole::write_whole;
 use master_file::FileFault;
 use std::alloc::Global;
@@ -44,6 +44,43 @@ pub fn report_fault_of<E: Write>(
     match write_fault(alloc, &fault, source, text, errors) {
         Ok(()) => status,
         Err(_) => FAILED,
+    }
+}
+
+/// Writes a fault of a zone file that is read as other servers read them to `errors` as one line, followed by its meaning with the line of the text, and
+/// returns the status. If it cannot be written, the status is that of an I/O error.
+pub fn report_wide_fault<E: Write>(
+    alloc: Global,
+    fault: FileFault,
+    source: Source<'_>,
+    text: &[u8],
+    errors: &mut E,
+) -> u8
+    ensures { EndsBy (Fault.Zone fault) result (E.contents errors.old) (E.contents errors.new) }
+{
+    let reported = Fault::Zone(fault);
+    let status = reported.status();
+    match write_wide_fault(alloc, &reported, fault, source, text, errors) {
+        Ok(()) => status,
+        Err(_) => FAILED,
+    }
+}
+
+/// Writes a fault of a zone file as one line, followed by its meaning.
+fn write_wide_fault<E: Write>(
+    alloc: Global,
+    reported: &Fault,
+    fault: FileFault,
+    source: Source<'_>,
+    text: &[u8],
+    errors: &mut E,
+) -> io::Result<()>
+    ensures { OnOk result (IsReported reported.now (E.contents errors.old) (E.contents errors.new)) }
+{
+    writeln!(errors, "{reported}")?;
+    match wide_reason(alloc, fault, source, text) {
+        Ok(reason) => write_line(reason.as_str(), errors),
+        Err(_) => write_line(wide_reason_of(fault), errors),
     }
 }
 

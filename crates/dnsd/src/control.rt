@@ -51,7 +51,7 @@ fn plan_for<R: AllocGlobal, S: Fn(FileReader) -> io::Result<()>>(
     let reloads = match serve.zone {
         Source::Input => None,
         Source::File(path) => {
-            let (slot, reader) = prepare_reloads(rt.alloc(), path, &serve.origin)?;
+            let (slot, reader) = prepare_reloads(rt.alloc(), path, &serve.origin, serve.is_wide)?;
             start(reader)?;
             Some(slot)
         }

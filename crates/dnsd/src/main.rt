@@ -108,7 +108,8 @@ fn run_task<
             command,
             has_origin,
             has_warnings,
-        } => run_command(rt, command, *has_origin, *has_warnings),
+            is_wide,
+        } => run_command(rt, command, *has_origin, *has_warnings, *is_wide),
         Task::Serve(serve) => run_serve(rt, serve, start),
         Task::Stored(stored) => run_stored(rt, *stored),
         Task::Journal(dir) => run_journal(rt, dir),
@@ -126,10 +127,11 @@ fn run_command<R: Files + Print + Eprint + Input + AllocGlobal>(
     command: &Command<'_>,
     has_origin: bool,
     has_warnings: bool,
+    is_wide: bool,
 ) -> io::Result<u8> {
     let alloc = rt.alloc();
     let mut errors = Vec::new(alloc);
-    let ended = run_on_streams(rt, command, has_warnings, &mut errors)?;
+    let ended = run_on_streams(rt, command, has_warnings, is_wide, &mut errors)?;
     rt.eprint(String::from_utf8_lossy(alloc, errors.as_slice())?)?;
     if ended.at_root && !has_origin && is_warned_of(command) {
         eprintln!(rt; "{ROOT_APEX}")?;

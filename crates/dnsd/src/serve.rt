@@ -11,8 +11,8 @@ use command_line::{BAD_COMMAND, MAX_THREADS, Serve, StorePlan, is_routed};
 use commands::{DONE, FAILED};
 use dnsd_setup::{
     BoundSockets, Entries, FileReader, Listening, Log, LogLine, ServedZone, StartedZone,
-    WorkerSockets, ZoneStore, bind_sockets, descriptors, keys_for, read_text_for, start_entries,
-    start_store_for, tell_outside, text_for,
+    WorkerSockets, ZoneStore, ZoneText, bind_sockets, descriptors, keys_for, read_text_for,
+    start_entries, start_store_for, tell_outside, text_for,
 };
 use key_file::KeyFile;
 use notify::large_in;
@@ -66,8 +66,10 @@ pub fn run_serve<
         Ok(Err(status)) => return Ok(status),
         Err(fault) => return Err(fault),
     };
-    let Some(text) = text_for(rt, serve)? else {
-        return Ok(FAILED);
+    let text = match text_for(rt, serve) {
+        Ok(Ok(text)) => text,
+        Ok(Err(status)) => return Ok(status),
+        Err(fault) => return Err(fault),
     };
     match serve.store {
         Some(plan) => serve_store(rt, serve, plan, text, keys.as_ref(), start),
@@ -92,7 +94,7 @@ fn serve_zone_text<
         + Drop
         + 'static,
     S: Fn(FileReader) -> io::Result<()>,
->(rt: &R, serve: &Serve<'_>, text: Vec<u8>, keys: Option<&KeyFile>, start: &S) -> io::Result<u8>
+>(rt: &R, serve: &Serve<'_>, text: ZoneText, keys: Option<&KeyFile>, start: &S) -> io::Result<u8>
     requires { (f : _) (x : _) → S.pre f x }
 {
     let begun = match read_text_for(rt, serve, text) {
@@ -131,7 +133,7 @@ fn serve_store<
     rt: &R,
     serve: &Serve<'_>,
     plan: StorePlan<'_>,
-    text: Vec<u8>,
+    text: ZoneText,
     keys: Option<&KeyFile>,
     start: &S,
 ) -> io::Result<u8>
@@ -167,7 +169,7 @@ fn serve_bound_store<
     rt: &R,
     serve: &Serve<'_>,
     plan: StorePlan<'_>,
-    text: Vec<u8>,
+    text: ZoneText,
     bound: Bound,
     keys: Option<&KeyFile>,
 ) -> io::Result<u8> {

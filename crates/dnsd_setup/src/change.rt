@@ -1,10 +1,10 @@
 //! Printing what changes from one zone to another.
-use crate::zone_file::text_from;
+use crate::zone_file::zone_text_from;
+use crate::zone_text::ZoneText;
 use change_command::{write_change, write_message};
 use command_line::Change;
 use commands::{DONE, FAILED, Fault, REFUSED, Source, report_fault_of};
 use dns_name::Name;
-use master_file::read_zone;
 use std::alloc::Global;
 use std::io::{self, BufReader};
 use std::rt::Files;
@@ -18,17 +18,20 @@ pub fn run_change<R: Files + Print + Eprint + Input + AllocGlobal>(
 ) -> io::Result<u8> {
     let alloc = rt.alloc();
     let mut reader = BufReader::new(alloc, rt.reader())?;
-    let Some(old_text) = text_from(rt, change.old, &mut reader)? else {
-        return Ok(FAILED);
+    let (origin, is_wide) = (&change.origin, change.is_wide);
+    let old_text = match zone_text_from(rt, change.old, origin, is_wide, &mut reader)? {
+        Ok(text) => text,
+        Err(status) => return Ok(status),
     };
-    let Some(next_text) = text_from(rt, change.next, &mut reader)? else {
-        return Ok(FAILED);
+    let next_text = match zone_text_from(rt, change.next, origin, is_wide, &mut reader)? {
+        Ok(text) => text,
+        Err(status) => return Ok(status),
     };
-    let old = match zone_from(alloc, old_text.as_slice(), change.old, &change.origin) {
+    let old = match zone_from(alloc, &old_text, change.old, origin) {
         Ok(zone) => zone,
         Err(refused) => return tell_refused(rt, &refused),
     };
-    let next = match zone_from(alloc, next_text.as_slice(), change.next, &change.origin) {
+    let next = match zone_from(alloc, &next_text, change.next, origin) {
         Ok(zone) => zone,
         Err(refused) => return tell_refused(rt, &refused),
     };
@@ -45,15 +48,16 @@ struct RefusedText {
 /// The zone of a text, or what is to be said where it is refused.
 fn zone_from(
     alloc: Global,
-    text: &[u8],
+    text: &ZoneText,
     source: Source<'_>,
     origin: &Name,
 ) -> Result<Zone, RefusedText> {
-    match read_zone(alloc, text, origin) {
+    match text.zone(alloc, origin) {
         Ok(zone) => Ok(zone),
         Err(fault) => {
             let mut errors = Vec::new(alloc);
-            let status = report_fault_of(alloc, Err(Fault::Zone(fault)), source, text, &mut errors);
+            let fault = Err(Fault::Zone(fault));
+            let status = report_fault_of(alloc, fault, source, text.shown(), &mut errors);
             Err(RefusedText { status, errors })
         }
     }

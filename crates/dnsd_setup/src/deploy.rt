@@ -1,12 +1,11 @@
 //! Bringing the zone that a server serves to another one.
 use crate::keys::{key_file_at, warn_of_short};
-use crate::zone_file::text_from;
+use crate::zone_file::zone_text_from;
 use change_command::write_change;
 use command_line::Deploy;
 use commands::{DONE, FAILED, Fault, REFUSED, report_fault_of};
 use dns_rdata::{Rcode, Serial};
 use key_file::KeyFile;
-use master_file::read_zone;
 use std::alloc::Global;
 use std::fs::{File, Files};
 use std::io::{self, BufReader};
@@ -118,15 +117,17 @@ fn next_zone<R: Files + Eprint + Input + AllocGlobal>(
 ) -> io::Result<Result<Zone, u8>> {
     let alloc = rt.alloc();
     let mut reader = BufReader::new(alloc, rt.reader())?;
-    let Some(text) = text_from(rt, deploy.zone, &mut reader)? else {
-        return Ok(Err(FAILED));
+    let (origin, is_wide) = (&deploy.origin, deploy.is_wide);
+    let text = match zone_text_from(rt, deploy.zone, origin, is_wide, &mut reader)? {
+        Ok(text) => text,
+        Err(status) => return Ok(Err(status)),
     };
-    match read_zone(alloc, text.as_slice(), &deploy.origin) {
+    match text.zone(alloc, origin) {
         Ok(zone) => Ok(Ok(zone)),
         Err(fault) => {
             let mut errors = Vec::new(alloc);
             let fault = Err(Fault::Zone(fault));
-            let status = report_fault_of(alloc, fault, deploy.zone, text.as_slice(), &mut errors);
+            let status = report_fault_of(alloc, fault, deploy.zone, text.shown(), &mut errors);
             rt.eprint(String::from_utf8_lossy(alloc, errors.as_slice())?)?;
             Ok(Err(status))
         }

@@ -5,6 +5,7 @@ ghost use Rattle.store_server.specs.Opened.{IsGiven};
 
 use crate::started_zone::{StartedStore, StartedZone};
 use crate::zone_file::tell_zone;
+use crate::zone_text::ZoneText;
 use command_line::{PrintedFault, Serve, StorePlan};
 use commands::{FAILED, REFUSED};
 use log_lines::Level;
@@ -30,20 +31,20 @@ pub fn start_store_for<
     rt: &R,
     serve: &Serve<'_>,
     plan: StorePlan<'_>,
-    text: Vec<u8>,
+    text: ZoneText,
 ) -> io::Result<Result<StartedZone, u8>>
     ensures { IfOk result (λ r. IfOk r CanStart) }
 {
     let mut random = [0u8; SALT];
     rt.fill_bytes(&mut random)?;
     let given = Given {
-        text: text.as_slice(),
+        text: text.octets(),
         origin: &serve.origin,
         taken: plan.taken,
     };
     match start_store(rt, rt.alloc(), plan.dir, given, random) {
         Ok(started) => Ok(Ok(started_in(rt, plan, started)?)),
-        Err(refusal) => Ok(Err(tell_refusal(rt, plan.dir, text.as_slice(), refusal)?)),
+        Err(refusal) => Ok(Err(tell_refusal(rt, plan.dir, &text, refusal)?)),
     }
 }
 
@@ -132,7 +133,7 @@ fn tell_serial<R: Eprint>(rt: &R, notice: &str, summary: &ChangeSummary) -> io::
 fn tell_refusal<R: Env + AllocGlobal + Eprint>(
     rt: &R,
     dir: &str,
-    text: &[u8],
+    text: &ZoneText,
     refusal: Refusal,
 ) -> io::Result<u8> {
     let mark = Level::Error.mark_for(rt);

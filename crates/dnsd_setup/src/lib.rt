@@ -24,6 +24,7 @@ mod stored;
 mod streams;
 mod writer;
 mod zone_file;
+mod zone_text;
 
 pub use bound::{BoundSockets, WorkerSockets, bind_sockets};
 pub use change::run_change;
@@ -40,3 +41,4 @@ pub use stored::{run_journal, run_stored};
 pub use streams::run_on_streams;
 pub use writer::{Entries, Entry, start_entries};
 pub use zone_file::{read_text_for, text_for};
+pub use zone_text::ZoneText;

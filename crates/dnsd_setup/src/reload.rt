@@ -1,9 +1,9 @@
 //! The thread that reads the zone file again while its zone is served.
-
+use crate::zone_text::ZoneText;
 use commands::Fault;
 use dns_engine::SharedVersion;
 use dns_name::Name;
-use master_file::{FileFault, read_zone};
+use master_file::FileFault;
 use std::alloc::{AllocError, Global};
 use std::fs::{self, Files};
 use std::io;
@@ -26,27 +26,38 @@ impl Drop for FileReader {
 
 /// What is read.
 struct ZoneFile {
+    /// Where it is.
     path: String,
+    /// The origin of its relative names.
     origin: Name,
+    /// Whether it is read as other servers read zone files.
+    is_wide: bool,
 }
 
 impl Drop for ZoneFile {
     fn drop(self) {
-        let ZoneFile { path: _, origin: _ } = self;
+        let ZoneFile {
+            path: _,
+            origin: _,
+            is_wide: _,
+        } = self;
     }
 }
 
-/// Where reloads of the zone file at a path are ordered, and what reads it, with this origin. Fails if there is not enough memory.
+/// Where reloads of the zone file at a path are ordered, and what reads it, with this origin; `is_wide` is whether it is read as other servers read zone
+/// files. Fails if there is not enough memory.
 pub fn prepare_reloads(
     alloc: Global,
     path: &str,
     origin: &Name,
+    is_wide: bool,
 ) -> Result<(Reloads, FileReader), AllocError> {
     let slot = Arc::new(alloc, ReloadSlot::new())?;
     let own = Arc::try_clone(&slot)?;
     let file = ZoneFile {
         path: format!(in alloc; "{path}")?,
         origin: origin.copy(),
+        is_wide,
     };
     Ok((slot, FileReader { slot: own, file }))
 }
@@ -97,15 +108,23 @@ fn read_anew<R: Files + AllocGlobal>(
     read: &mut Option<Zone>,
 ) -> ReloadResult {
     let alloc = rt.alloc();
-    let text = match fs::read(rt, file.path.as_str()) {
-        Ok(text) => text,
+    let source = match fs::read(rt, file.path.as_str()) {
+        Ok(source) => source,
         Err(fault) => return Err(unread(alloc, &file.path, &fault)),
     };
-    match read_zone(alloc, &text, &file.origin) {
+    match zone_of(alloc, source, file) {
         Ok(zone) => *read = Some(zone),
         Err(fault) => return Err(no_zone(alloc, fault)),
     }
     made_of(alloc, served, read)
+}
+
+/// The zone of the file's text.
+fn zone_of(alloc: Global, source: Vec<u8>, file: &ZoneFile) -> Result<Zone, FileFault> {
+    match ZoneText::of(alloc, source, &file.origin, file.is_wide) {
+        Ok(text) => text.zone(alloc, &file.origin),
+        Err(refused) => Err(refused.fault),
+    }
 }
 
 /// What the zone that was read makes of the zone that is served, or why it is refused.

@@ -3,13 +3,16 @@ ghost use Rattle.std.specs.Prelude.{IfOk};
 ghost use Rattle.dnsd_setup.specs.Starts.{CanStart};
 
 use crate::started_zone::StartedZone;
+use crate::zone_text::ZoneText;
 use command_line::Serve;
-use commands::{Fault, Source, read_zone_text, report_fault};
+use commands::{FAILED, Fault, Source, read_zone_text, report_fault, report_wide_fault};
+use dns_name::Name;
 use log_lines::Level;
-use master_file::{FileFault, read_zone};
+use master_file::{Cause, FileFault};
 use std::io::{BufRead, BufReader};
 use std::rt::{Env, Files};
 use std::{fs, io};
+use store_recovery::Take;
 
 /// The text in a zone's file. None if it cannot be read; standard error then has the reason.
 pub fn read_zone_file<R: Files + Eprint + AllocGlobal>(
@@ -26,7 +29,7 @@ pub fn read_zone_file<R: Files + Eprint + AllocGlobal>(
 }
 
 /// The text of a source: a file, or standard input up to a line `%`. None if it cannot be read; standard error then has the reason.
-pub(crate) fn text_from<R: Files + Eprint + AllocGlobal, I: BufRead>(
+fn text_from<R: Files + Eprint + AllocGlobal, I: BufRead>(
     rt: &R,
     source: Source<'_>,
     reader: &mut I,
@@ -37,18 +40,118 @@ pub(crate) fn text_from<R: Files + Eprint + AllocGlobal, I: BufRead>(
     }
 }
 
-/// The text of the zone that is served. None if its file cannot be read; standard error then has the reason.
-pub fn text_for<R: Files + Eprint + Input + AllocGlobal>(
+/// The text of a source; `is_wide` is whether it is read as other servers read zone files, its names relative to the origin. If it cannot be read, or
+/// a file of that kind is refused, returns the program's status, and standard error has the reason.
+pub(crate) fn zone_text_from<R: Files + Eprint + AllocGlobal, I: BufRead>(
+    rt: &R,
+    source: Source<'_>,
+    origin: &Name,
+    is_wide: bool,
+    reader: &mut I,
+) -> io::Result<Result<ZoneText, u8>> {
+    let Some(text) = text_from(rt, source, reader)? else {
+        return Ok(Err(FAILED));
+    };
+    match ZoneText::of(rt.alloc(), text, origin, is_wide) {
+        Ok(text) => {
+            tell_left_out(rt, "", source, &text)?;
+            Ok(Ok(text))
+        }
+        Err(refused) => {
+            let (fault, text) = (refused.fault, refused.source.as_slice());
+            let status = tell_wide(rt, "", source, fault, text)?;
+            Ok(Err(status))
+        }
+    }
+}
+
+/// Reports on standard error why a zone file as other servers read it is refused, and returns the program's status.
+fn tell_wide<R: Eprint + AllocGlobal>(
+    rt: &R,
+    mark: &str,
+    source: Source<'_>,
+    fault: FileFault,
+    text: &[u8],
+) -> io::Result<u8> {
+    let alloc = rt.alloc();
+    let mut errors = Vec::new(alloc);
+    let status = report_wide_fault(alloc, fault, source, text, &mut errors);
+    rt.eprint(mark)?;
+    rt.eprint(String::from_utf8_lossy(alloc, errors.as_slice())?)?;
+    Ok(status)
+}
+
+/// Reports on standard error how many records are left out of a text, if there are any.
+fn tell_left_out<R: Eprint + AllocGlobal>(
+    rt: &R,
+    mark: &str,
+    source: Source<'_>,
+    text: &ZoneText,
+) -> io::Result<()> {
+    let lines = text.left_out();
+    let [first, ..] = lines else {
+        return Ok(());
+    };
+    let count = lines.len();
+    match source {
+        Source::Input => eprintln!(rt;
+            "{mark}records left out (RRSIG, NSEC, NSEC3, NSEC3PARAM): {count}, the first on line {first}"
+        ),
+        Source::File(path) => eprintln!(rt;
+            "{mark}{path}: records left out (RRSIG, NSEC, NSEC3, NSEC3PARAM): {count}, the first on line {first}"
+        ),
+    }
+}
+
+/// The text of the zone that is served. If it cannot be read, or a zone file as other servers read it is refused, returns the program's status, and
+/// standard error has the reason.
+pub fn text_for<R: Env + Files + Eprint + Input + AllocGlobal>(
     rt: &R,
     serve: &Serve<'_>,
-) -> io::Result<Option<Vec<u8>>> {
+) -> io::Result<Result<ZoneText, u8>> {
     let alloc = rt.alloc();
-    match serve.zone {
+    let read = match serve.zone {
         Source::Input => {
             let text = read_zone_text(alloc, &mut BufReader::new(alloc, rt.reader())?)?;
-            Ok(Some(text))
+            Some(text)
         }
-        Source::File(path) => read_zone_file(rt, path),
+        Source::File(path) => read_zone_file(rt, path)?,
+    };
+    let Some(text) = read else {
+        return Ok(Err(FAILED));
+    };
+    taken_text(rt, serve, text)
+}
+
+/// The text of the zone that is served. Where a zone file as other servers read it is refused, but the store is chosen, it is taken as it is: it is no
+/// zone, and the store is served.
+fn taken_text<R: Env + Eprint + AllocGlobal>(
+    rt: &R,
+    serve: &Serve<'_>,
+    text: Vec<u8>,
+) -> io::Result<Result<ZoneText, u8>> {
+    match ZoneText::of(rt.alloc(), text, &serve.origin, serve.is_wide) {
+        Ok(text) => {
+            tell_left_out(rt, Level::Notice.mark_for(rt), serve.zone, &text)?;
+            Ok(Ok(text))
+        }
+        Err(refused) => {
+            if is_store_chosen(serve) && refused.fault.cause != Cause::NoMemory {
+                return Ok(Ok(ZoneText::refused(refused)));
+            }
+            let (fault, text) = (refused.fault, refused.source.as_slice());
+            let mark = Level::Error.mark_for(rt);
+            let status = tell_wide(rt, mark, Source::Input, fault, text)?;
+            Ok(Err(status))
+        }
+    }
+}
+
+/// Whether there is a store, and it is chosen whatever the zone's text is.
+fn is_store_chosen(serve: &Serve<'_>) -> bool {
+    match serve.store {
+        Some(plan) => plan.taken == Some(Take::Store),
+        None => false,
     }
 }
 
@@ -56,26 +159,31 @@ pub fn text_for<R: Files + Eprint + Input + AllocGlobal>(
 pub fn read_text_for<R: Env + Eprint + AllocGlobal>(
     rt: &R,
     serve: &Serve<'_>,
-    text: Vec<u8>,
+    text: ZoneText,
 ) -> io::Result<Result<StartedZone, u8>>
     ensures { IfOk result (λ r. IfOk r CanStart) }
 {
-    match read_zone(rt.alloc(), text.as_slice(), &serve.origin) {
+    match text.zone(rt.alloc(), &serve.origin) {
         Ok(zone) => Ok(Ok(StartedZone::Zone(zone))),
-        Err(fault) => Ok(Err(tell_zone(rt, text.as_slice(), fault)?)),
+        Err(fault) => Ok(Err(tell_zone(rt, &text, fault)?)),
     }
 }
 
 /// Reports on standard error why a zone's text is refused, and returns the program's status.
 pub(crate) fn tell_zone<R: Env + Eprint + AllocGlobal>(
     rt: &R,
-    text: &[u8],
+    text: &ZoneText,
     fault: FileFault,
 ) -> io::Result<u8> {
+    let mark = Level::Error.mark_for(rt);
+    if let Some(own) = text.fault() {
+        return tell_wide(rt, mark, Source::Input, own, text.shown());
+    }
     let alloc = rt.alloc();
     let mut errors = Vec::new(alloc);
-    let status = report_fault(alloc, Err(Fault::Zone(fault)), text, &mut errors);
-    rt.eprint(Level::Error.mark_for(rt))?;
+    let fault = Err(Fault::Zone(fault));
+    let status = report_fault(alloc, fault, text.shown(), &mut errors);
+    rt.eprint(mark)?;
     rt.eprint(String::from_utf8_lossy(alloc, errors.as_slice())?)?;
     Ok(status)
 }

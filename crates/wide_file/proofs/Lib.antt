@@ -1,0 +1,3 @@
+pub mod PlainFileLemmas
+pub mod RecordLemmas
+pub mod TextBackLemmas

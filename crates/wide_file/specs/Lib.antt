@@ -1,0 +1,5 @@
+pub mod Laws
+pub mod Mark
+pub mod PlainText
+pub mod WideRecords
+pub mod WideZone

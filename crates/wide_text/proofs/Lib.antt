@@ -1,0 +1,9 @@
+pub mod EuiLemmas
+pub mod FieldLemmas
+pub mod ParamLemmas
+pub mod PlainFront
+pub mod PlainLemmas
+pub mod QuoteLemmas
+pub mod RestLemmas
+pub mod WordLemmas
+pub mod WriteLemmas

@@ -1,0 +1,13 @@
+pub mod Data
+pub mod Encoded
+pub mod Fields
+pub mod Forms
+pub mod Front
+pub mod Laws
+pub mod Mnemonics
+pub mod Params
+pub mod Private
+pub mod Signing
+pub mod Texts
+pub mod Times
+pub mod Words

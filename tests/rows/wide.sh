@@ -1,0 +1,223 @@
+# Zone files as other servers read them, with `--wide` of check, serve, change and deploy: times with units, words of more types, directives in any case, an
+# SOA's MINIMUM as the TTL, and records of signers left out. What isn't asked for stays: without the option each text is read as ever.
+
+# wide WORD..: on standard input stand a zone file, a line =>, and what `dnsd check --wide` prints of it under the words; what it writes on errors is $1, a
+# line or nothing
+wide() {
+    local both said_of=${1:+$1$'\n'}
+    shift
+    IFS= read -r -d '' both || true
+    spell "${both%%$'\n=>\n'*}"$'\n'
+    input=$spelt
+    tries check --wide "$@" -
+    [[ $got == 0 && $said == "${both#*$'\n=>\n'}" && $told == "$said_of" ]] || differs "${both#*$'\n=>\n'}and on errors '$said_of'" check --wide "$@" -
+}
+
+# a file as in use
+wide '' --origin example.com. <<'end'
+$TTL 1h30m
+@␉IN␉SOA␉NS1 Hostmaster ( 2026112801 2h 15m 2W 5m )
+␉NS␉ns1
+NS1␉5m IN A 192.0.2.1
+_443._tcp.www 1d TLSA 3 1 1 ( 0123456789abcdef0123456789ABCDEF 0123456789abcdef0123456789abcdef )
+after␉TXT␉"still example.com"
+=>
+example.com. 5400 IN SOA ns1.example.com. hostmaster.example.com. 2026112801 7200 900 1209600 300
+example.com. 5400 IN NS ns1.example.com.
+after.example.com. 5400 IN TXT "still example.com"
+ns1.example.com. 300 IN A 192.0.2.1
+_443._tcp.www.example.com. 86400 IN TYPE52 \# 35 0301010123456789abcdef0123456789abcdef0123456789abcdef0123456789abcdef
+end
+# without the option it is refused as ever
+refuses 1 'line 1: M3 Number' check --origin example.com. -
+
+# what the plain grammar takes has the same zone
+takes <zones/example.test.zone
+prints "${input%$'\n'}" check --wide -
+prints "${input%$'\n'}" check --wide --origin example.test. -
+
+# a byte order mark in front of the text is passed over, of a directive, a comment and a record; one after it isn't
+two=$'x. 60 IN SOA a.x. b.x. 1 2 3 4 5\nx. 60 IN NS a.x.'
+while IFS= read -r line; do
+    input=$'\xef\xbb\xbf'${line% => *}$'\n@ 60 SOA a b 1 2 3 4 5\n@ 60 NS a\n'
+    prints "$two${line##* =>}" check --wide --origin x. -
+done <<'end'
+$TTL 60 =>
+; a zone =>
+end
+input=$'\xef\xbb\xbf@ 60 TXT "a"\n@ 60 SOA a b 1 2 3 4 5\n@ 60 NS a\n'
+prints "$two"$'\nx. 60 IN TXT "a"' check --wide --origin x. -
+input=$'\xef\xbb\xbf\xef\xbb\xbf@ 60 SOA a b 1 2 3 4 5\n@ 60 NS a\n'
+refuses 1 'line 0: M11 Apex' check --wide --origin x. -
+
+# times: numbers with units, one or more, in any case and order, added up; m is a minute. Directives in any case
+wide '' <<'end'
+$Origin x.
+$ttl 1w2d3h4m5s
+@ SOA a b 1 2H 15M 1209600 0
+@ NS ns
+a 2W A 192.0.2.1
+b 90M A 192.0.2.1
+c 1d12h A 192.0.2.1
+d 0 A 192.0.2.1
+e 5m1h A 192.0.2.1
+ns A 192.0.2.1
+=>
+x. 788645 IN SOA a.x. b.x. 1 7200 900 1209600 0
+x. 788645 IN NS ns.x.
+a.x. 1209600 IN A 192.0.2.1
+b.x. 5400 IN A 192.0.2.1
+c.x. 129600 IN A 192.0.2.1
+d.x. 0 IN A 192.0.2.1
+e.x. 3900 IN A 192.0.2.1
+ns.x. 788645 IN A 192.0.2.1
+end
+
+# no time: a unit without a number, a number after which there is none, and fractions; a TTL of 2^31 and more; units in other numbers
+zone_text=$'$TTL 5\nx. SOA a. b. 1 2 3 4 5\nx. NS a.\n'
+while IFS= read -r line; do
+    input=$zone_text${line% => *}$'\n'
+    refuses 1 "line 4: ${line##* => }" check --wide -
+done <<'end'
+x. 1h30 A 192.0.2.1 => M5 UnknownType
+x. h A 192.0.2.1 => M5 UnknownType
+x. 1.5h A 192.0.2.1 => M5 UnknownType
+x. "1h" A 192.0.2.1 => M5 UnknownType
+x. 3551W A 192.0.2.1 => M3 Number
+x. 2147483648 A 192.0.2.1 => M3 Number
+x. MX 1h a. => M3 Number
+x. CAA 256 issue "a" => M3 Number
+x. CAA 0 is-sue "a" => M6 BadData
+x. CAA 0 issue "a" "b" => M6 BadData
+x. TLSA 3 1 1 012 => M6 BadData
+x. OPENPGPKEY AQIDBA => M6 BadData
+x. DS 1 RSA 1 00 => M3 Number
+x. HTTPS 1 . port=53 alpn=h2 => M6 BadData
+x. LOC 52 22 23.000 N 4 53 32.000 E 0m => M5 UnknownType
+x. AAA 192.0.2.1 => M5 UnknownType
+$INCLUDE other => M1 Directive
+$GENERATE 1-3 a$ A 192.0.2.$ => M1 Directive
+end
+
+# a fault has the line of the file, and no advice for plain text
+input=$zone_text$'x. 1h CAAA 0 issue "a"\n'
+says 1 'line 4: M5 UnknownType
+a type is due, by a name that is known here or by its number: `x. 1h CAAA 0 issue "a"`' check --wide -
+
+# words of types (RFC 1035, 3.3.2; RFC 1183; RFC 3403, 4; RFC 4398, 2; RFC 4034, 5.4; RFC 4255, 3; RFC 4701, 3.6; RFC 6698, 2.2; RFC 7344, 3; RFC 7553, 4;
+# RFC 7929, 2.3; RFC 8659, 4.1; RFC 9460, 2.1), as BIND's named-rrchecker has their data
+wide '' --origin x. <<'end'
+$TTL 5
+@ SOA a b 1 2 3 4 5
+@ NS a
+a HINFO "INTEL-386" UNIX
+b CAA 0 issue "letsencrypt.org"
+b CAA 128 tbs "Unknown"
+c NAPTR 10 20 "u" "E2U+sip" "!^.*$!sip:info@example.com!" .
+d URI 10 1 "ftp://ftp1.example.com/public"
+e DS 60485 RSASHA1 1 2BB183AF5F22588179A53B0A 98631FAD1A292118
+f DHCID AAIBY2/AuCccgoJbsaxcQc9TUapptP69lOjxfNuVAA2kjEA=
+g CERT PKIX 0 RSASHA256 AQID
+h OPENPGPKEY AQIDBA==
+i RP A B.
+j DNAME Example.NET.
+k EUI48 00-00-5e-00-53-2a
+l HTTPS 1 . alpn="h2,h3" ipv4hint=192.0.2.3
+=>
+x. 5 IN SOA a.x. b.x. 1 2 3 4 5
+x. 5 IN NS a.x.
+a.x. 5 IN TYPE13 \# 15 09494e54454c2d33383604554e4958
+b.x. 5 IN TYPE257 \# 22 000569737375656c657473656e63727970742e6f7267
+b.x. 5 IN TYPE257 \# 12 8003746273556e6b6e6f776e
+c.x. 5 IN TYPE35 \# 43 000a00140175074532552b7369701b215e2e2a24217369703a696e666f406578616d706c652e636f6d2100
+d.x. 5 IN TYPE256 \# 33 000a00016674703a2f2f667470312e6578616d706c652e636f6d2f7075626c6963
+e.x. 5 IN TYPE43 \# 24 ec4505012bb183af5f22588179a53b0a98631fad1a292118
+f.x. 5 IN TYPE49 \# 35 000201636fc0b8271c82825bb1ac5c41cf5351aa69b4febd94e8f17cdb95000da48c40
+g.x. 5 IN TYPE37 \# 8 0001000008010203
+h.x. 5 IN TYPE61 \# 4 01020304
+i.x. 5 IN TYPE17 \# 8 0141017800014200
+j.x. 5 IN TYPE39 \# 13 074578616d706c65034e455400
+k.x. 5 IN TYPE108 \# 6 00005e00532a
+l.x. 5 IN TYPE65 \# 21 0001000001000602683202683300040004c0000203
+end
+
+# no TTL is in force: an SOA's MINIMUM is its TTL, and that of the records after it; of another type there is none
+wide '' --origin x. <<'end'
+@ SOA a b 1 2 3 4 5m
+@ NS a
+a 7 A 192.0.2.1
+b A 192.0.2.1
+=>
+x. 300 IN SOA a.x. b.x. 1 2 3 4 300
+x. 300 IN NS a.x.
+a.x. 7 IN A 192.0.2.1
+b.x. 7 IN A 192.0.2.1
+end
+input=$'x. NS a.\nx. SOA a. b. 1 2 3 4 5\n'
+refuses 1 'line 1: M8 NoTtl' check --wide -
+
+# records of signers are left out, and their number is told; owner and TTL stay in force after them, and octets after \# are kept
+left='records left out (RRSIG, NSEC, NSEC3, NSEC3PARAM): '
+wide "${left}5, the first on line 2" --origin x. <<'end'
+@ 300 SOA a b 1 2 3 4 5
+  300 RRSIG SOA 13 1 300 (
+    20260102000000 20260101000000 1 x. AAAA )
+  NS a
+a 7 IN NSEC b A RRSIG NSEC
+  A 192.0.2.1
+0P9MHAVEQVM6T7VBL5LOP2U3T2RP3TOM nsec3 1 0 0 - 2T7B4G4VSA5SMI47K61MV5BV1A22BOJR A
+b TXT "b"
+@ NSEC3PARAM 1 0 0 -
+@ 9 RRSIG "NSEC" 13 1 300
+c RRSIG \# 1 00
+d TYPE47 \# 2 0001
+=>
+x. 300 IN SOA a.x. b.x. 1 2 3 4 5
+x. 300 IN NS a.x.
+a.x. 7 IN A 192.0.2.1
+b.x. 7 IN TXT "b"
+c.x. 9 IN TYPE46 \# 1 00
+d.x. 9 IN TYPE47 \# 2 0001
+end
+input=$zone_text$'x. RRSIG A "13\n'
+refuses 1 'line 4: M7 Unclosed' check --wide -
+
+# faults of the zone, and warnings, have the lines of the file too
+zone_file=$'$TTL 1h\n@ SOA ns1 admin ( 1\n  2h 15m\n  2W 5m )\n NS ns1\nns1 A 192.0.2.1\n\n; a remark\nwww RRSIG A 8 3 3600\nwww CNAME ns1\n'
+printf '%s' "$zone_file"$'\nwww CAA 0 issue ";"\n' >"$room/zone"
+input=
+says 1 "$room/zone: ${left}1, the first on line 9
+line 12: M12 Conflict
+$room/zone:12: a CNAME stands beside other data or another CNAME, or an NS at a wildcard: \`www\`, in \`www CAA 0 issue \";\"\`" check --wide --origin x. "$room/zone"
+input=$zone_file$'@ 5m MX ( 10\n  www )\n'
+row 0 "${left}1, the first on line 9"$'\n''line 11: warning: MX www.x. is an alias'$'\n' check --wide --warn --origin x. -
+
+# change, and serve with a store and without
+printf '%s' "$zone_file" >"$room/zone"
+printf '%s' "$zone_file"'b 5m CAA 0 issue ";"'$'\n' >"$room/next"
+input=
+row 0 '- x. 3600 IN SOA ns1.x. admin.x. 1 7200 900 1209600 300
++ x. 3600 IN SOA ns1.x. admin.x. 2 7200 900 1209600 300
++ b.x. 300 IN TYPE257 \# 8 000569737375653b' change --wide --origin x. "$room/zone" "$room/next"
+row 1 'M3 Number' change --origin x. "$room/zone" "$room/next"
+row 0 'x. with serial 1, 4 records' serve --wide --listen 127.0.0.1:0 --workers 1 --count 0 --origin x. "$room/zone"
+row 0 "${left}1, the first on line 9" serve --wide --listen 127.0.0.1:0 --workers 1 --count 0 --origin x. "$room/zone"
+row 1 'M3 Number' serve --listen 127.0.0.1:0 --workers 1 --count 0 --origin x. "$room/zone"
+rm -rf "$room/wide"
+mkdir "$room/wide"
+row 0 "created the store '$room/wide' from ZONE" serve --wide --listen 127.0.0.1:0 --workers 1 --count 0 --origin x. --store "$room/wide" "$room/zone"
+tries serve --wide --listen 127.0.0.1:0 --workers 1 --count 0 --origin x. --store "$room/wide" "$room/zone"
+[[ $got == 0 && $told != *ignoring* && $told == *'x. with serial 1, 4 records'* ]] || differs 'the store of the same file' serve --wide --store
+# the store is changed to another file, and found by the next start of that file; without the option the file is refused, and the store stays
+row 0 "serving ZONE; changed the store '$room/wide' to it: serial 1 to 2, 0 records deleted, 1 added" serve --wide --listen 127.0.0.1:0 --workers 1 --count 0 --origin x. --store "$room/wide" --take zone "$room/next"
+tries serve --wide --listen 127.0.0.1:0 --workers 1 --count 0 --origin x. --store "$room/wide" "$room/next"
+[[ $got == 0 && $told != *ignoring* && $told == *'x. with serial 2, 5 records'* ]] || differs 'the store of the same file' serve --wide --store
+row 1 'line 1: M3 Number' serve --listen 127.0.0.1:0 --workers 1 --count 0 --origin x. --store "$room/wide" "$room/next"
+row 0 'b.x. 300 IN TYPE257 \# 8 000569737375653b' zone "$room/wide"
+# a file that is refused needs the store to be chosen; where there is none, its own fault is told
+echo 'x. 1h30 A 192.0.2.1' >>"$room/zone"
+row 1 'line 11: M5 UnknownType' serve --wide --listen 127.0.0.1:0 --workers 1 --count 0 --origin x. --store "$room/wide" "$room/zone"
+row 0 'ignoring ZONE' serve --wide --listen 127.0.0.1:0 --workers 1 --count 0 --origin x. --store "$room/wide" --take store "$room/zone"
+rm -rf "$room/wide"
+mkdir "$room/wide"
+row 1 'line 11: M5 UnknownType' serve --wide --listen 127.0.0.1:0 --workers 1 --count 0 --origin x. --store "$room/wide" --take store "$room/zone"
