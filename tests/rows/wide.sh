@@ -38,13 +38,10 @@ prints "${input%$'\n'}" check --wide --origin example.test. -
 
 # a byte order mark in front of the text is passed over, of a directive, a comment and a record; one after it isn't
 two=$'x. 60 IN SOA a.x. b.x. 1 2 3 4 5\nx. 60 IN NS a.x.'
-while IFS= read -r line; do
-    input=$'\xef\xbb\xbf'${line% => *}$'\n@ 60 SOA a b 1 2 3 4 5\n@ 60 NS a\n'
-    prints "$two${line##* =>}" check --wide --origin x. -
-done <<'end'
-$TTL 60 =>
-; a zone =>
-end
+for line in '$TTL 60' '; a zone'; do
+    input=$'\xef\xbb\xbf'$line$'\n@ 60 SOA a b 1 2 3 4 5\n@ 60 NS a\n'
+    prints "$two" check --wide --origin x. -
+done
 input=$'\xef\xbb\xbf@ 60 TXT "a"\n@ 60 SOA a b 1 2 3 4 5\n@ 60 NS a\n'
 prints "$two"$'\nx. 60 IN TXT "a"' check --wide --origin x. -
 input=$'\xef\xbb\xbf\xef\xbb\xbf@ 60 SOA a b 1 2 3 4 5\n@ 60 NS a\n'
