@@ -185,9 +185,11 @@ def tries_commands(room):
     mode = os.stat(server.control).st_mode
     report(stat.S_ISSOCK(mode) and stat.S_IMODE(mode) == 0o600, "the socket is its owner's alone")
     status, said, _ = server.ask("status")
-    report(status == 0 and said.startswith("zone example.test.\nserial 1\nrecords 7\nversion 0\nuptime "), f"status: {said!r}")
+    report(status == 0 and said.startswith("zone example.test.\nserial 1\nrecords 7\nversion 0\nupdates 0\nstore ok\njournal 156\ntext zone-0\nuptime "), f"status: {said!r}")
+    tries_stranger(room, server)
     status, said, _ = server.ask("stats")
     report(status == 0 and 'dnsd_zone_serial{zone="example.test."} 1\n' in said, f"stats: {said!r}")
+    tries_lost_store(room, server)
     report(server.ask("reload") == (0, "nothing to change, serial 1\n", ""), "a reload of the same file changes nothing")
     written(f"{room}/zone", zone_text(5, 2, 3))
     status, said, _ = server.ask("reload")
@@ -205,6 +207,9 @@ def tries_commands(room):
     report((status, said) == (1, "") and "can't be read" in errors, f"no file: {errors!r}")
     report(zone_of(room) == canonical(zone_text(6, 3, 3), room), "the store has the zone of the last reload")
     report(frames_of(room) == 2, "with a frame for each reload")
+    octets = os.path.getsize(f"{room}/store/journal")
+    status, said, _ = server.ask("status")
+    report(status == 0 and f"serial 6\nrecords 7\nversion 2\nupdates 2\nstore ok\njournal {octets}\ntext zone-0\n" in said, f"and the status shows them: {said!r}")
     silent = []
     for _ in range(20):
         client = socket.socket(socket.AF_UNIX)
@@ -221,6 +226,28 @@ def tries_commands(room):
     server.reader.join()
     report(any("reload: serial 5 to 6, 4 records deleted, 4 added" in line for line in server.lines), "the log has each reload")
     report(any("reload failed: line 8: M6" in line for line in server.lines), "and why one failed")
+
+
+def tries_stranger(room, server):
+    """Another user's connect fails, though he may go into the directory (as root alone)."""
+    if os.geteuid() != 0:
+        return
+    os.chmod(room, 0o755)
+    words = ["setpriv", "--reuid", "65534", "--regid", "65534", "--clear-groups", sys.executable, "-c", f"import socket; socket.socket(socket.AF_UNIX).connect({server.control!r})"]
+    done = subprocess.run(words, capture_output=True, text=True, check=False)
+    report(done.returncode != 0 and "PermissionError" in done.stderr, f"another user can't connect: {done.stderr.strip().splitlines()[-1:]}")
+
+
+def tries_lost_store(room, server):
+    """While the store's directory is away, a reload fails, and the status says why; then it is written again."""
+    os.rename(f"{room}/store", f"{room}/away")
+    written(f"{room}/zone", zone_text(3, 9, 3))
+    status, said, errors = server.ask("reload")
+    report((status, said) == (1, "") and "SERVFAIL" in errors, f"a reload without the store's directory: {errors!r}")
+    status, said, _ = server.ask("status")
+    report(status == 0 and "serial 1\n" in said and "\nstore failing: the store's directory has no journal, or another one: it was moved or removed\n" in said, f"its status: {said!r}")
+    os.rename(f"{room}/away", f"{room}/store")
+    written(f"{room}/zone", zone_text(1, 1, 3))
 
 
 def wide_text(serial, more):

@@ -1,8 +1,9 @@
 //! The operator's commands to a running server: its control socket, and the thread that reads the zone file again for a reload.
 use command_line::Serve;
 use commands::Source;
-use dnsd_setup::{FileReader, bind_control_at, prepare_reloads, remove_control};
+use dnsd_setup::{FileReader, StartedZone, bind_control_at, prepare_reloads, remove_control};
 use serve_workers::ControlPlan;
+use std::alloc::AllocError;
 use std::fs::{File, Files};
 use std::io;
 use std::net::Net;
@@ -60,6 +61,8 @@ fn plan_for<R: AllocGlobal, S: Fn(FileReader) -> io::Result<()>>(
         listener,
         reloads,
         beside,
+        first: 0,
+        store: None,
     })
 }
 
@@ -68,4 +71,11 @@ pub fn unbind_control<R: Files<File = File>>(rt: &R, serve: &Serve<'_>) {
     if let Some(path) = serve.control {
         remove_control(rt, path);
     }
+}
+
+/// The same for a server that begins with this: the number of its version, and what is seen of its store. Fails if there is not enough memory.
+pub fn control_of(mut plan: ControlPlan, begun: &StartedZone) -> Result<ControlPlan, AllocError> {
+    plan.first = begun.number();
+    plan.store = begun.store_state()?;
+    Ok(plan)
 }

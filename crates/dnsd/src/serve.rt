@@ -3,7 +3,7 @@ ghost use Rattle.std.specs.Prelude.{◌≤◌, vec_len};
 ghost use Rattle.transfer_core.specs.declared.kept.TheConstants.{KEPT};
 ghost use Rattle.dnsd_setup.specs.Starts.{CanStart};
 
-use crate::control::{NotBound, control_for, unbind_control};
+use crate::control::{NotBound, control_for, control_of, unbind_control};
 use crate::key_rights::{may_update, rights_for, shared_keys};
 use crate::secondaries::{SecondarySockets, secondaries_for};
 use crate::thread_specs::{thread_specs_for, work_limits_of};
@@ -279,6 +279,10 @@ fn serve_on_sockets<
         entries,
         control,
     } = bound;
+    let control = match control {
+        Some(plan) => Some(control_of(plan, &begun)?),
+        None => None,
+    };
     let (workers, addresses, kept) = sockets.into_parts();
     let log = Log::new(entries, listening_for(serve, &begun, addresses, kept));
     warn(rt, serve, &log);

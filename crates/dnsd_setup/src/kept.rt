@@ -1,7 +1,7 @@
 //! Starting a server whose updates survive a restart.
 ghost use Rattle.std.specs.Prelude.{IfOk};
 ghost use Rattle.dnsd_setup.specs.Starts.{CanStart};
-ghost use Rattle.store_server.specs.Resumed.{IsGiven};
+ghost use Rattle.store_server.specs.Opened.{IsGiven};
 
 use crate::started_zone::{StartedStore, StartedZone};
 use crate::zone_file::tell_zone;
@@ -13,7 +13,9 @@ use std::fs::{File, Files};
 use std::io;
 use std::random::RandomSource;
 use std::rt::Env;
+use std::sync::Arc;
 use store_server::{Given, Refusal, Served, Started, TakenZone, start_store};
+use update_batches::StoreState;
 use zone_change::ChangeSummary;
 
 /// The number of secret octets at the start of a new journal.
@@ -57,10 +59,12 @@ fn started_in<R: Env + Eprint + AllocGlobal>(
 {
     tell_started(rt, plan.dir, &started)?;
     let dir = format!(in rt.alloc(); "{}", plan.dir)?;
+    let state = Arc::new(rt.alloc(), StoreState::new())?;
     Ok(StartedZone::Store(StartedStore {
         dir,
         journal: plan.journal,
         started,
+        state,
     }))
 }
 

@@ -6,10 +6,11 @@ ghost use Rattle.dnsd_setup.specs.Starts.{CanStart, IsIn, StartsWith};
 use dns_engine::SharedVersion;
 use std::alloc::{AllocError, Global};
 use std::fs::{File, Files};
-use std::sync::Wait;
+use std::sync::{Arc, Wait};
 use store_compaction::{CompactedStore, StoreWriter, TextWriter};
 use store_files::{FileDisk, StoreLock};
 use store_server::{LoggedCompactions, LoggedStore, ServerStore, Started, StoreLog, resume_store};
+use update_batches::SharedStoreState;
 use zone_tree::{Version, Zone, ZoneRead};
 
 /// Where a server's updates are stored; it logs its events to the server's log.
@@ -28,6 +29,8 @@ pub struct StartedStore {
     pub journal: u64,
     /// The result of starting from it.
     pub started: Started,
+    /// What other threads see of it while updates are written to it.
+    pub state: SharedStoreState,
 }
 
 /// What a server starts with.
@@ -77,6 +80,25 @@ impl StartedZone {
         }
     }
 
+    /// The number of the version that has this zone.
+    pub fn number(&self) -> u64 {
+        match self {
+            StartedZone::Zone(_) => 0,
+            StartedZone::Store(kept) => match kept.started.store.later.last() {
+                Some(last) => last.number(),
+                None => kept.started.store.first.number(),
+            },
+        }
+    }
+
+    /// What other threads see of its store; none without a store. Fails if there is not enough memory.
+    pub fn store_state(&self) -> Result<Option<SharedStoreState>, AllocError> {
+        match self {
+            StartedZone::Zone(_) => Ok(None),
+            StartedZone::Store(kept) => Ok(Some(Arc::try_clone(&kept.state)?)),
+        }
+    }
+
     /// The number of records in that zone.
     pub fn records(&self) -> usize {
         let mut records = 0usize;
@@ -122,13 +144,15 @@ impl StartedZone {
                     dir,
                     journal,
                     started,
+                    state,
                 } = kept;
                 let Started { lock, store, .. } = started;
+                let own = Arc::try_clone(&state)?;
                 let (first, later, writer) = resume_store(rt, alloc, store, keep)?;
                 Ok(ServedZone {
                     first,
                     later,
-                    store: kept_in(rt, dir, journal, writer, texts, log),
+                    store: kept_in(rt, dir, journal, writer, texts, log, (state, own)),
                     lock: Some(lock),
                 })
             }
@@ -136,7 +160,7 @@ impl StartedZone {
     }
 }
 
-/// A store with this writer, in which updates are stored and whose zone texts are written by `texts`.
+/// A store with this writer, in which updates are stored and whose zone texts are written by `texts`. Other threads see it by a state, which is there twice.
 fn kept_in<'a, R: Files<File = File> + AllocGlobal + Copy + Drop, T: TextWriter, L: StoreLog>(
     rt: &R,
     dir: String,
@@ -144,10 +168,11 @@ fn kept_in<'a, R: Files<File = File> + AllocGlobal + Copy + Drop, T: TextWriter,
     writer: StoreWriter<FileDisk>,
     texts: T,
     log: &'a L,
+    states: (SharedStoreState, SharedStoreState),
 ) -> ZoneStore<'a, R, T, L>
     ensures { IsIn writer result }
 {
     let compactions = LoggedCompactions::new(log);
-    let store = CompactedStore::new(*rt, dir, writer, texts, compactions, journal);
-    ServerStore::Store(LoggedStore::new(store, log))
+    let store = CompactedStore::new(*rt, dir, writer, texts, compactions, journal, states.0);
+    ServerStore::Store(LoggedStore::new(store, log, states.1))
 }

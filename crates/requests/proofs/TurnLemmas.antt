@@ -3,7 +3,7 @@ use Rattle.std.proofs.Common.{◌≡◌, refl, ℕ, List, [], ◌∷◌, ◌++�
 use Rattle.dns_message.specs.Frame.{frame_of}
 use Rattle.requests.specs.Octets.{frames_of}
 use Rattle.requests.specs.Served.{BeginsWith, Learned, Grows, none, next, Served}
-use Rattle.requests.specs.Turns.{Turn}
+use Rattle.requests.specs.Exchange.{Exchange}
 
 pub begins_itself : {T : Type 0} (values : List T) → BeginsWith values values
 begins_itself values = ([], sym (append-nil values))
@@ -30,7 +30,7 @@ module _ {T : Type 0} (IsReply : Learned T → Learned T → List ℕ → List (
   served_none start old = record { requests = []; octets = []; last = start; answers = none; grown = grows_itself start; input = refl; output = sym (append-nil old.1) }
 
   -- one request more is answered
-  pub served_more : (start seen later : Learned T) (old mid new : List ℕ × List ℕ) → Served IsReply start old seen mid → Turn IsReply seen mid later new → Served IsReply start old later new
+  pub served_more : (start seen later : Learned T) (old mid new : List ℕ × List ℕ) → Served IsReply start old seen mid → Exchange IsReply seen mid later new → Served IsReply start old later new
   served_more start seen later old mid new s t = record {
     requests = s.requests ++ t.request ∷ [];
     octets = s.octets ++ frames_of t.messages;

@@ -3,4 +3,4 @@ pub mod Datagrams
 pub mod Exchanged
 pub mod Octets
 pub mod Served
-pub mod Turns
+pub mod Exchange

@@ -22,7 +22,7 @@ use Rattle.signed_replies.specs.contracts.messages.SignedMessagesMessages.TheImp
 use Rattle.zone_replies.proofs.SendLemmas.{allowed_send, rule_sync}
 use Rattle.zone_replies.specs.contracts.transfer.Transfer as transfer
 use Rattle.zone_replies.specs.contracts.transfer.TransferMessages.TheImpl as sending
-use Rattle.worker_jobs.proofs.SendLemmas.{woken_sync, transfer_send, tcp_send, tcp_row_send, telling_send, keys_sync, signed_messages_send}
+use Rattle.worker_jobs.proofs.SendLemmas.{woken_sync, transfer_send, tcp_send, tcp_row_send, telling_send, control_send, keys_sync, signed_messages_send}
 use Rattle.worker_jobs.specs.contracts.datagrams_job.DatagramsJob as datagrams
 use Rattle.worker_jobs.specs.contracts.worker_socket.WorkerSocket as socket
 use Rattle.serve_workers.specs.contracts.signed_jobs.SharedKeys as shared_keys
@@ -51,7 +51,7 @@ udp_send a = search (allowed_send, crossing.crosses, sendable) depth 60 fits 200
 job_send : (a : NamedLft) (C : RattleType) → IsSync C → IsSend (job.the_field a C).row
 job_send a C ticks =
     enum_send (enum.shape (job.the_type a C))
-    ((search (allowed_send, crossing.crosses, sendable) depth 60 fits 20000, tt), ((tcp_send a transfer.the_row C _ transfer_send ticks, tt), ((signed_send a _ C (udp_send a) ticks, tt), ((signed_send a _ C (tcp_row_send a (signed_messages.the_row a transfer.the_row) C (signed_sending.ghosts transfer.the_row sending.ghosts signed_sending.no_dict signed_sending.no_dict) (signed_messages_send a transfer.the_row transfer_send) ticks) ticks, tt), ((telling_send a C ticks, tt), tt)))))
+    ((search (allowed_send, crossing.crosses, sendable) depth 60 fits 20000, tt), ((tcp_send a transfer.the_row C _ transfer_send ticks, tt), ((signed_send a _ C (udp_send a) ticks, tt), ((signed_send a _ C (tcp_row_send a (signed_messages.the_row a transfer.the_row) C (signed_sending.ghosts transfer.the_row sending.ghosts signed_sending.no_dict signed_sending.no_dict) (signed_messages_send a transfer.the_row transfer_send) ticks) ticks, tt), ((telling_send a C ticks, tt), ((control_send a C ticks, tt), tt))))))
 
 pub thread_send : (a b : NamedLft) (T N L C : RattleType) (g : Ghosts T.Denot) (n : naming.Ghosts N.Denot) (s : server_names.Ghosts N.Denot) → IsSync L → IsSync C → IsSend (thread.the_row a b T N L C n g s)
 thread_send a b T N L C g n s hears ticks =

@@ -11,7 +11,7 @@ use std::io::{self, ErrorKind};
 use std::marker::Model;
 use std::sync::Wait;
 use store_files::{FileDisk, is_in_place};
-use update_batches::{UpdateStore, VersionUpdate};
+use update_batches::{SharedStoreState, UpdateStore, VersionUpdate};
 
 /// The reason for refusing to append to a journal that a start would not find (own).
 const MISPLACED: &str =
@@ -34,6 +34,8 @@ pub struct CompactedStore<
     had: u64,
     /// Whether the last zone text failed. If so, the next one is started a few seconds later.
     failed: bool,
+    /// What other threads see of it.
+    state: SharedStoreState,
 }
 
 impl<R: Files<File = File> + Alloc + Clone + Drop, T: TextWriter, N: CompactionLog + Drop> Drop
@@ -48,6 +50,7 @@ impl<R: Files<File = File> + Alloc + Clone + Drop, T: TextWriter, N: CompactionL
             most: _,
             had: _,
             failed: _,
+            state: _,
         } = self;
     }
 }
@@ -72,7 +75,8 @@ impl<
     ghost use Rattle.store_compaction.specs.Kept.{IsTended, IsKept};
     ghost use Rattle.store_compaction.specs.Crash.{IsPlaced};
 
-    /// The store in a directory, with its writer, the writer of its zone texts, and the receiver of its events. A journal of more than `most` bytes is compacted.
+    /// The store in a directory, with its writer, the writer of its zone texts, and the receiver of its events. A journal of more than `most` bytes is compacted. Other threads
+    /// see it by `state`.
     pub fn new(
         files: R,
         dir: String,
@@ -80,9 +84,11 @@ impl<
         texts: T,
         events: N,
         most: u64,
+        state: SharedStoreState,
     ) -> CompactedStore<R, T, N>
         ensures { result ≡ record { writer = writer; wanted = T.wanted texts } }
     {
+        state.show_journal(writer.log().len(), writer.head().number);
         CompactedStore {
             files,
             dir,
@@ -92,6 +98,7 @@ impl<
             most,
             had: 0,
             failed: false,
+            state,
         }
     }
 
@@ -106,6 +113,12 @@ impl<
             Ok(false) => Some(io::Error::new(ErrorKind::NotFound, MISPLACED)),
             Err(fault) => Some(fault),
         }
+    }
+
+    /// Shows its journal to other threads.
+    fn show(&self) {
+        self.state
+            .show_journal(self.writer.log().len(), self.writer.head().number);
     }
 
     /// Puts the journal of the zone text in place once that text is on disk.
@@ -128,6 +141,7 @@ impl<
             Placed::Done => {
                 self.failed = false;
                 self.had = self.writer.log().len();
+                self.show();
             }
         }
     }
@@ -167,6 +181,7 @@ impl<
     ghost leaves = { Leaves };
 
     fn tend<W: Wait>(&mut self, rt: &W, alloc: Global) {
+        self.show();
         if self.misplaced(alloc).is_some() {
             return;
         }

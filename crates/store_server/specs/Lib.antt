@@ -1,5 +1,5 @@
 pub mod Private
-pub mod Resumed
+pub mod Opened
 pub mod Served
 pub mod Started
 pub mod Taken

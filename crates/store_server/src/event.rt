@@ -1,5 +1,6 @@
 //! Events of a store (own).
 use journal::LogFault;
+use std::alloc::{AllocError, Global};
 use std::fmt::{self, Display, Formatter};
 use std::io;
 use std::sync::Wait;
@@ -27,7 +28,7 @@ impl Display for StoreEvent {
         match self {
             StoreEvent::Failing(fault) => {
                 f.write_str("store: cannot write updates: ")?;
-                write_fault(f, fault)?;
+                write!(f, "{}", WriteFault { fault })?;
                 f.write_str("; updates get SERVFAIL until a write succeeds")
             }
             StoreEvent::Kept => f.write_str("store: updates are written again"),
@@ -36,14 +37,27 @@ impl Display for StoreEvent {
     }
 }
 
-/// Writes the reason why a batch was not written.
-fn write_fault<W: fmt::Write>(f: &mut Formatter<W>, fault: &LogFault<io::Error>) -> fmt::Result {
-    match fault {
-        LogFault::Stuck => f.write_str("the journal accepts no writes after an earlier error"),
-        LogFault::Full => f.write_str("the journal is full"),
-        LogFault::NoMemory => f.write_str("out of memory"),
-        LogFault::Disk(fault) => write!(f, "{fault}"),
+/// The reason why a batch was not written.
+#[derive(Clone, Copy)]
+struct WriteFault<'a> {
+    fault: &'a LogFault<io::Error>,
+}
+
+impl Display for WriteFault<'_> {
+    fn fmt<W: fmt::Write>(&self, f: &mut Formatter<W>) -> fmt::Result {
+        match self.fault {
+            LogFault::Stuck => f.write_str("the journal accepts no writes after an earlier error"),
+            LogFault::Full => f.write_str("the journal is full"),
+            LogFault::NoMemory => f.write_str("out of memory"),
+            LogFault::Disk(fault) => write!(f, "{fault}"),
+        }
     }
+}
+
+/// The reason why a batch was not written, as text.
+pub(crate) fn reason_of(alloc: Global, fault: &LogFault<io::Error>) -> Result<String, AllocError> {
+    let fault = WriteFault { fault };
+    format!(in alloc; "{fault}")
 }
 
 /// Writes the result of a step of a compaction.

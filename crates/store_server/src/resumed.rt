@@ -8,7 +8,7 @@ ghost use Rattle.update_batches.specs.declared.version_update.VersionUpdate.{Ver
 ghost use Rattle.store_compaction.specs.RecentUpdates.{followed};
 ghost use Rattle.update_batches.specs.Batch.{versions_in, updates_of};
 ghost use Rattle.store_compaction.specs.Writer.{trail_of as trail_in};
-ghost use Rattle.store_server.specs.Resumed.{IsGiven, WritesOn};
+ghost use Rattle.store_server.specs.Opened.{IsGiven, WritesOn};
 
 use crate::resume::OpenStore;
 use dns_engine::SharedVersion;

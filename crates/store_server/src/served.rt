@@ -1,12 +1,12 @@
 //! Where a server writes updates (RFC 2136, 3.5; own).
 ghost use Rattle.std.specs.Prelude.{◌≡◌, true, false};
 
-use crate::event::{StoreEvent, StoreLog};
+use crate::event::{StoreEvent, StoreLog, reason_of};
 use journal::LogFault;
 use std::alloc::Global;
 use std::io;
 use std::sync::Wait;
-use update_batches::{UpdateStore, VersionUpdate};
+use update_batches::{SharedStoreState, StoreState, UpdateStore, VersionUpdate};
 
 /// A store for updates, and the log that says when a write fails, and when one succeeds again.
 pub struct LoggedStore<'a, S, L> {
@@ -14,6 +14,8 @@ pub struct LoggedStore<'a, S, L> {
     log: &'a L,
     /// Whether the last batch that was to be written could not be.
     failing: bool,
+    /// Where other threads see that.
+    state: SharedStoreState,
 }
 
 impl<'a, S: Drop, L> Drop for LoggedStore<'a, S, L> {
@@ -22,19 +24,21 @@ impl<'a, S: Drop, L> Drop for LoggedStore<'a, S, L> {
             store: _,
             log: _,
             failing: _,
+            state: _,
         } = self;
     }
 }
 
 impl<'a, S, L> LoggedStore<'a, S, L> {
-    /// A store that writes to a log.
-    pub fn new(store: S, log: &'a L) -> LoggedStore<'a, S, L>
+    /// A store that writes to a log, and shows other threads by `state` whether it fails.
+    pub fn new(store: S, log: &'a L, state: SharedStoreState) -> LoggedStore<'a, S, L>
         ensures { result.store ≡ store }
     {
         LoggedStore {
             store,
             log,
             failing: false,
+            state,
         }
     }
 }
@@ -90,11 +94,12 @@ impl<S: UpdateStore<Fault = LogFault<io::Error>>, L: StoreLog> UpdateStore
         match logged.store.append(rt, alloc, updates) {
             Ok(()) => {
                 if !updates.is_empty() {
-                    tell_kept(rt, logged.log, &mut logged.failing);
+                    tell_kept(rt, logged.log, &logged.state, &mut logged.failing);
                 }
                 Ok(())
             }
             Err(fault) => {
+                show_fault(rt, alloc, &logged.state, &fault);
                 tell_failing(rt, logged.log, &mut logged.failing, fault);
                 Err(NotStored)
             }
@@ -102,12 +107,19 @@ impl<S: UpdateStore<Fault = LogFault<io::Error>>, L: StoreLog> UpdateStore
     }
 }
 
+/// Shows other threads why a batch was not written. Without memory for the reason it is an empty one.
+fn show_fault<R: Wait>(rt: &R, alloc: Global, state: &StoreState, fault: &LogFault<io::Error>) {
+    let reason = reason_of(alloc, fault).unwrap_or(String::new(alloc));
+    state.show_fault(rt, Some(reason));
+}
+
 /// Logs that a batch was written, if the one before it was not.
-fn tell_kept<R: Wait, L: StoreLog>(rt: &R, log: &L, failing: &mut bool)
+fn tell_kept<R: Wait, L: StoreLog>(rt: &R, log: &L, state: &StoreState, failing: &mut bool)
     ensures { failing.new ≡ false }
 {
     if *failing {
         *failing = false;
+        state.show_fault(rt, None);
         log.tell_store(rt, StoreEvent::Kept);
     }
 }

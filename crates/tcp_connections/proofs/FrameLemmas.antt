@@ -8,7 +8,7 @@ use Rattle.dns_message.specs.Frame.{frame_of, frame_in}
 use Rattle.dns_message.specs.Message.{number_at}
 use Rattle.requests.specs.Octets.{frames_of}
 use Rattle.requests.specs.Served.{Learned, Grows}
-use Rattle.requests.specs.Turns.{Turn}
+use Rattle.requests.specs.Exchange.{Exchange}
 use Rattle.tcp_connections.specs.Kept.{Kept, due}
 
 -- octets are below 256, and so are those at their front
@@ -97,7 +97,7 @@ some_ready ready new message pushed = λ none.
 module _ {T : Type 0} (IsReply : Learned T → Learned T → List ℕ → List (List ℕ) → Type 0) where
   -- a request is answered
   pub turn_made : (seen later : Learned T) (held owed left more request : List ℕ) (messages : List (List ℕ)) → Grows later seen → IsReply seen later request messages
-      → held ≡ frame_of request ++ left → more ≡ owed ++ frames_of messages → Turn IsReply seen (held, owed) later (left, more)
+      → held ≡ frame_of request ++ left → more ≡ owed ++ frames_of messages → Exchange IsReply seen (held, owed) later (left, more)
   turn_made seen later held owed left more request messages grows reply input output = record {
     request = request;
     messages = messages;

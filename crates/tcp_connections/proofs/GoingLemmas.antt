@@ -3,7 +3,7 @@ use Rattle.std.proofs.Common.{◌≡◌, ◌≢◌, refl, ℕ, List, [], ◌++�
 use Rattle.dns_message.specs.Frame.{frame_of}
 use Rattle.requests.specs.Octets.{frames_of}
 use Rattle.requests.specs.Served.{Learned, Grows, Served, EndsAs}
-use Rattle.requests.specs.Turns.{Turn}
+use Rattle.requests.specs.Exchange.{Exchange}
 use Rattle.requests.proofs.TurnLemmas.{grows_more, served_more, known_first}
 use Rattle.requests.specs.declared.stream_end.StreamEnd.{StreamEnd}
 use Rattle.requests.specs.declared.stream_end.StreamEnd.TheVariants.{Clean, Torn, Device, Spent, NoMemory}
@@ -38,7 +38,7 @@ module _ {T : Type 0} (IsReply : Learned T → Learned T → List ℕ → List (
   known_seen start seen later (Some o) a grows known = (known.0, known.1, served_seen start seen later o known.0 known.2 grows)
 
   -- one request more is answered
-  known_turn : (start seen later : Learned T) (old octets : Option (List ℕ × List ℕ)) (k m : Kept) → Turn IsReply seen (k.held, due k) later (m.held, due m) → Known IsReply start old seen (told_by k octets) → Known IsReply start old later (told_by m octets)
+  known_turn : (start seen later : Learned T) (old octets : Option (List ℕ × List ℕ)) (k m : Kept) → Exchange IsReply seen (k.held, due k) later (m.held, due m) → Known IsReply start old seen (told_by k octets) → Known IsReply start old later (told_by m octets)
   known_turn start seen later None octets k m t known = tt
   known_turn start seen later (Some o) None k m t known = absurd (let none : ⊥ = cc (known.1) in none)
   known_turn start seen later (Some o) (Some p) k m t known =
@@ -46,7 +46,7 @@ module _ {T : Type 0} (IsReply : Learned T → Learned T → List ℕ → List (
       let same : known.0 ≡ mid = cc (known.1) in
       let served : Served IsReply start o seen mid = subst (λ n. Served IsReply start o seen n) same known.2 in
       let next : List ℕ × List ℕ = (m.held ++ p.0, p.1 ++ due m) in
-      let made : Turn IsReply seen mid later next = record {
+      let made : Exchange IsReply seen mid later next = record {
         request = t.request;
         messages = t.messages;
         grows = t.grows;
@@ -75,7 +75,7 @@ module _ {T : Type 0} (IsReply : Learned T → Learned T → List ℕ → List (
   pub keeps_more : (seen mid later : Learned T) (k m n : Kept) → Keeps IsReply seen k mid m → Keeps IsReply mid m later n → Keeps IsReply seen k later n
   keeps_more seen mid later k m n first then = λ octets start old known. then octets start old (first octets start old known)
 
-  pub keeps_turn : (seen later : Learned T) (k m : Kept) → Turn IsReply seen (k.held, due k) later (m.held, due m) → Keeps IsReply seen k later m
+  pub keeps_turn : (seen later : Learned T) (k m : Kept) → Exchange IsReply seen (k.held, due k) later (m.held, due m) → Keeps IsReply seen k later m
   keeps_turn seen later k m t = λ octets start old known. known_turn start seen later old octets k m t known
 
   pub keeps_same : (seen later : Learned T) (k m : Kept) → Grows later seen → m ≡ k → Keeps IsReply seen k later m
@@ -83,7 +83,7 @@ module _ {T : Type 0} (IsReply : Learned T → Learned T → List ℕ → List (
       subst (λ (n : Kept). Known IsReply start old later (told_by n octets)) (sym same) (known_seen start seen later old (told_by k octets) grows known)
 
   -- a request is answered, or nothing changes
-  pub keeps_step : (seen later : Learned T) (k m : Kept) (result : Result Step StreamEnd) → Grows later seen → (result ≡ Ok More → Turn IsReply seen (k.held, due k) later (m.held, due m)) → IfOk result (λ step. step ≢ More → m ≡ k) → OnErr result (m ≡ k) → Keeps IsReply seen k later m
+  pub keeps_step : (seen later : Learned T) (k m : Kept) (result : Result Step StreamEnd) → Grows later seen → (result ≡ Ok More → Exchange IsReply seen (k.held, due k) later (m.held, due m)) → IfOk result (λ step. step ≢ More → m ≡ k) → OnErr result (m ≡ k) → Keeps IsReply seen k later m
   keeps_step seen later k m (Ok More) grows made same ended = keeps_turn seen later k m (made refl)
   keeps_step seen later k m (Ok Done) grows made same ended = keeps_same seen later k m grows (same (λ is. cc))
   keeps_step seen later k m (Ok Full) grows made same ended = keeps_same seen later k m grows (same (λ is. cc))

@@ -9,7 +9,7 @@ use Rattle.requests.specs.declared.stream_end.StreamEnd.{StreamEnd}
 use Rattle.tcp_connections.specs.Going.{IsHeldUp}
 use Rattle.tcp_connections.specs.declared.step.Step.{Step}
 use Rattle.tcp_connections.specs.declared.step.Step.TheVariants.{Blocked, Later}
-use Rattle.tcp_connections.specs.Links.{HasStopped}
+use Rattle.tcp_connections.specs.Connections.{HasStopped}
 use Rattle.tcp_connections.specs.declared.connection.Connection.{Connection}
 
 -- a connection that couldn't go on has stopped

@@ -12,7 +12,7 @@ use Rattle.tcp_connections.specs.StreamOctets.{Stays, EndsTold}
 use Rattle.tcp_connections.proofs.StreamOctetLemmas.{writes_itself, writes_more}
 use Rattle.tcp_connections.proofs.GoingLemmas.{goes_seen, goes_more, goes_stays, stops_more, stops_told}
 use Rattle.tcp_connections.proofs.BegunLemmas.{begun_more}
-use Rattle.tcp_connections.specs.Links.{Seen, told_of, HasGone, HasEnded, OwnServed}
+use Rattle.tcp_connections.specs.Connections.{Seen, told_of, HasGone, HasEnded, OwnServed}
 
 -- what follows from what holds where a result is Ok, and where it is Err
 pub ok_follows : {A E P Q : Type 0} (result : Result A E) → (P → Q) → OnOk result P → OnOk result Q

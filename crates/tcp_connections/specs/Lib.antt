@@ -4,7 +4,7 @@ pub mod Ends
 pub mod Going
 pub mod Group
 pub mod Kept
-pub mod Links
+pub mod Connections
 pub mod Places
 pub mod Rate
 pub mod Survey

@@ -3,7 +3,7 @@ ghost use Rattle.std.specs.Prelude.{◌≡◌, ◌≢◌, ℕ, option_map};
 ghost use Rattle.slab.specs.Slab.{get, slab_len};
 ghost use Rattle.tcp_connections.specs.Deadlines.{gone_on, kept_at};
 ghost use Rattle.tcp_connections.specs.Ends.{AreCounted};
-ghost use Rattle.tcp_connections.specs.Links.{ends_at};
+ghost use Rattle.tcp_connections.specs.Connections.{ends_at};
 
 use crate::connection::Connection;
 use crate::ends::Ends;

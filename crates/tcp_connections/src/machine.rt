@@ -4,7 +4,7 @@ ghost use Rattle.dns_message.specs.Frame.{frame_in};
 ghost use Rattle.dns_message.specs.Message.{message_limit};
 ghost use Rattle.requests.specs.Octets.{frames_of};
 ghost use Rattle.requests.specs.Allowed.{IsReplyFrom, IsLaterFrom};
-ghost use Rattle.requests.specs.Turns.{Turn};
+ghost use Rattle.requests.specs.Exchange.{Exchange};
 ghost use Rattle.requests.specs.declared.stream_end.StreamEnd.{StreamEnd as EndOf};
 ghost use Rattle.serve_core.specs.declared.transport.Transport.TheVariants.{Tcp};
 ghost use Rattle.tcp_connections.specs.Asked.{EachGrows, Waits};
@@ -196,7 +196,7 @@ impl<M: Messages> ConnectionState<M> {
         requires { message_limit ≤ length out.old }
         ensures asker { A.asker handler.new ≡ A.asker handler.old }
         ensures grows { EachGrows (A.seen handler.new) (A.seen handler.old) }
-        ensures turn { result ≡ Ok Step.More → Turn (IsReplyFrom A.is_reply allowed.entry.rules.now Tcp from) (A.seen handler.old (A.asker handler.old)) (self.old.held, due self.old) (A.seen handler.new (A.asker handler.old)) (self.new.held, due self.new) }
+        ensures turn { result ≡ Ok Step.More → Exchange (IsReplyFrom A.is_reply allowed.entry.rules.now Tcp from) (A.seen handler.old (A.asker handler.old)) (self.old.held, due self.old) (A.seen handler.new (A.asker handler.old)) (self.new.held, due self.new) }
         ensures passed { result ≡ Ok Step.More → self.new.passed ≡ one_passed self.old.passed }
         ensures taken { OnOk result (self.new.taken ≡ self.old.taken) }
         ensures same { IfOk result (λ step. step ≢ Step.More → self.new ≡ self.old) }

@@ -7,7 +7,7 @@ ghost use Rattle.requests.specs.Served.{BeginsWith};
 ghost use Rattle.tcp_connections.specs.Asked.{EachGrows};
 ghost use Rattle.slab.specs.Slab.{get, slab_len};
 ghost use Rattle.tcp_connections.specs.Ends.{AreCounted};
-ghost use Rattle.tcp_connections.specs.Links.{OwnServed, HasStopped, seen_of};
+ghost use Rattle.tcp_connections.specs.Connections.{OwnServed, HasStopped, seen_of};
 
 use crate::blocking::Blocking;
 use crate::connection::{Connection, serve_connection};

@@ -13,7 +13,7 @@ use Rattle.tcp_connections.specs.declared.group.PeerGroup.{PeerGroup}
 use Rattle.tcp_connections.specs.Deadlines.{gone_on, kept_at, is_over}
 use Rattle.tcp_connections.specs.Rate.{is_slow}
 use Rattle.tcp_connections.specs.Places.{IsGiver}
-use Rattle.tcp_connections.specs.Links.{HasStopped, seen_of}
+use Rattle.tcp_connections.specs.Connections.{HasStopped, seen_of}
 use Rattle.tcp_connections.specs.declared.limits.Limits.{Limits}
 use Rattle.tcp_connections.specs.declared.connection.Connection.{Connection}
 use Rattle.tcp_connections.proofs.OwnLemmas.{own_same}

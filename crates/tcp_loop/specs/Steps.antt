@@ -10,7 +10,7 @@ use Rattle.tcp_connections.specs.declared.group.PeerGroup.{PeerGroup}
 use Rattle.slab.specs.Slab.{Slab, get}
 use Rattle.tcp_connections.specs.Deadlines.{kept_at}
 use Rattle.tcp_connections.specs.Places.{IsGiver}
-use Rattle.tcp_connections.specs.Links.{OwnServed, HasStopped, seen_of}
+use Rattle.tcp_connections.specs.Connections.{OwnServed, HasStopped, seen_of}
 use Rattle.tcp_connections.specs.declared.limits.Limits.{Limits}
 use Rattle.tcp_connections.specs.declared.connection.Connection.{Connection}
 use Rattle.tcp_loop.specs.declared.tally.Tally.{Tally}

@@ -7,14 +7,14 @@ use crate::updates::{WrittenStore, new_store, updates_of};
 use journal::Head;
 use std::alloc::Global;
 use std::io;
-use std::sync::Wait;
+use std::sync::{Arc, Wait};
 use std::test::Fail;
 use store_compaction::{
     CompactedStore, CompactionEvent, CompactionLog, NextText, TextWriter, create_next_text,
     write_next_text,
 };
 use store_files::NewText;
-use update_batches::UpdateStore;
+use update_batches::{StoreState, UpdateStore};
 
 /// A text to be written.
 #[derive(Drop)]
@@ -144,7 +144,8 @@ pub(crate) fn create_store(
         slow,
     };
     let path = format!(in files.alloc(); "{dir}")?;
-    let compacted = CompactedStore::new(*files, path, writer, texts, NoCompactionLog, 400);
+    let state = Arc::new(files.alloc(), StoreState::new())?;
+    let compacted = CompactedStore::new(*files, path, writer, texts, NoCompactionLog, 400, state);
     Ok(Store {
         compacted,
         published,

@@ -12,7 +12,7 @@ use Rattle.update_batches.specs.declared.verdict.Serials.{Serials}
 use Rattle.update_batches.specs.declared.version_update.VersionUpdate.{VersionUpdate}
 use Rattle.update_batches.specs.Engine.{AreMade}
 use Rattle.update_batches.specs.Batch.{newest_of, versions_in, IsBatch}
-use Rattle.update_batches.specs.Done.{AreDone}
+use Rattle.update_batches.specs.Results.{AreDone}
 use Rattle.update_batches.proofs.BatchLemmas.{judged_made}
 use Rattle.test_server.proofs.VerdictLemmas.{judged_done}
 use Rattle.zone_server.specs.declared.update_result.UpdateResult.{UpdateResult}

@@ -10,7 +10,7 @@ use Rattle.update_batches.specs.declared.queued_update.QueuedUpdate.{QueuedUpdat
 use Rattle.update_batches.specs.UpdateRequest.{serial_in}
 use Rattle.update_batches.specs.Batch.{newest_of, Judged, nothing, reported, starved, changed}
 use Rattle.update_batches.proofs.BatchLemmas.{judged_long}
-use Rattle.update_batches.specs.Done.{first_verdict, IsDone, AreDone}
+use Rattle.update_batches.specs.Results.{first_verdict, IsDone, AreDone}
 
 -- the place of the newest of versions that are published after others
 newest_place : (published : List Version) (first : Version) (made : List Version) → IsLast published first

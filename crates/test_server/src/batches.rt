@@ -3,7 +3,7 @@ ghost use Rattle.std.specs.Prelude.{◌≡◌, ◌≤◌, ℕ, IfSome, length, d
 ghost use Rattle.zone_tree.specs.Version.{Version};
 ghost use Rattle.dns_engine.specs.Held.{IsLatest};
 ghost use Rattle.update_batches.specs.Batch.{versions_in, IsBatch};
-ghost use Rattle.update_batches.specs.Done.{first_verdict};
+ghost use Rattle.update_batches.specs.Results.{first_verdict};
 ghost use Rattle.zone_server.specs.UpdateResult.{IsJudgedIn, queued_results};
 
 use crate::states::{TestState, passes};

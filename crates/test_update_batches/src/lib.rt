@@ -18,6 +18,8 @@ mod servers;
 #[cfg(test)]
 mod store;
 #[cfg(test)]
+mod store_states;
+#[cfg(test)]
 mod updates;
 #[cfg(test)]
 mod version_list;

@@ -1,7 +1,7 @@
 //! A publisher whose versions are a list, and which keeps the result of each update.
 ghost use Rattle.std.specs.Prelude.{◌≡◌, ◌+◌, ◌≤◌, ◌<◌, ◌-◌, ◌++◌, [], ◌∷◌, vec_len, vec_capacity, length, take, drop};
 ghost use Rattle.update_batches.specs.Batch.{versions_in};
-ghost use Rattle.update_batches.specs.Done.{first_verdict, replies_to};
+ghost use Rattle.update_batches.specs.Results.{first_verdict, replies_to};
 
 use dns_engine::SharedVersion;
 use std::alloc::{AllocError, Global};

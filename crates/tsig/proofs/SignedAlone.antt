@@ -15,7 +15,7 @@ use Rattle.dns_message.specs.declared.tsig.Place.TheVariants.{Bare, Bad, At}
 use Rattle.dns_name.specs.Name.{Name}
 use Rattle.tsig.specs.Digested.{without_tsig, variables, digested, mac_over}
 use Rattle.tsig.specs.Keys.{SharedKey, is_named, index_of, key_of}
-use Rattle.tsig.specs.Taken.{IsSignedBy}
+use Rattle.tsig.specs.SignedBy.{IsSignedBy}
 use Rattle.tsig.specs.Verification.{by_mac, by_key, by_tsig, by_place, verified, request_tsig_of, is_size, is_right, is_timely}
 use Rattle.tsig.specs.Tsig.{Tsig, tsig_at}
 use Rattle.tsig.specs.declared.request_tsig.RequestTsig.{RequestTsig}

@@ -3,6 +3,6 @@ pub mod Fields
 pub mod Keys
 pub mod Replies
 pub mod Signing
-pub mod Taken
+pub mod SignedBy
 pub mod Tsig
 pub mod Verification

@@ -7,7 +7,7 @@ ghost use Rattle.tsig.specs.Keys.{SharedKey};
 ghost use Rattle.tsig.specs.Verification.{is_right, verified};
 ghost use Rattle.tsig.specs.Signing.{stamped, signed};
 ghost use Rattle.tsig.specs.declared.stamp.Stamp.{Stamp as Given};
-ghost use Rattle.tsig.specs.Taken.{IsSignedBy};
+ghost use Rattle.tsig.specs.SignedBy.{IsSignedBy};
 ghost use Rattle.tsig.specs.declared.request_tsig.RequestTsig.{RequestTsig as Said};
 ghost use Rattle.tsig.specs.declared.verifying.Verification.TheVariants.{Signed as Taken};
 

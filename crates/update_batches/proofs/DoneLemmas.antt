@@ -12,7 +12,7 @@ use Rattle.update_batches.specs.declared.version_update.VersionUpdate.{VersionUp
 use Rattle.update_batches.specs.UpdateRequest.{serial_in}
 use Rattle.update_batches.specs.Batch.{newest_of, versions_in, IsBatch, Judged, nothing, reported, starved, changed}
 use Rattle.update_batches.proofs.BatchLemmas.{judged_long}
-use Rattle.update_batches.specs.Done.{first_verdict, IsDone, AreDone}
+use Rattle.update_batches.specs.Results.{first_verdict, IsDone, AreDone}
 
 -- the place of the newest of versions that are published after others
 newest_place : (published : List Version) (first : Version) (made : List Version) → IsLast published first

@@ -8,11 +8,11 @@ use Rattle.update_batches.specs.declared.verdict.Verdict.{Verdict}
 use Rattle.update_batches.specs.Verdict.{failed}
 use Rattle.update_batches.specs.Batch.{newest_of, Judged}
 use Rattle.update_batches.proofs.BatchLemmas.{last_once, judged_long}
-use Rattle.update_batches.specs.Done.{reply_to, replies_to}
+use Rattle.update_batches.specs.Results.{reply_to, replies_to}
 use Rattle.update_batches.specs.declared.queued_update.QueuedUpdate.{QueuedUpdate}
 use Rattle.update_batches.specs.UpdateRequest.{messages_of}
 use Rattle.zone_tree.specs.Version.{Version}
-use Rattle.update_batches.specs.Replies.{Reply}
+use Rattle.update_batches.specs.Reply.{Reply}
 use Rattle.update_batches.specs.Turned.{ThreadState, IsTold, HasTurned, AreAnswered, unasked, lasting, failing, HasServed, IsCrashSafe, uncalled}
 use Rattle.update_batches.proofs.CrashLemmas.{safe_both}
 

@@ -1,9 +1,9 @@
 pub mod Batch
-pub mod Done
+pub mod Results
 pub mod Engine
 pub mod Journal
 pub mod ReadAs
-pub mod Replies
+pub mod Reply
 pub mod Turned
 pub mod UpdateRequest
 pub mod Verdict

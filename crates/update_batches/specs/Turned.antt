@@ -8,8 +8,8 @@ use Rattle.update_batches.specs.Verdict.{failed}
 use Rattle.update_batches.specs.declared.queued_update.QueuedUpdate.{QueuedUpdate}
 use Rattle.update_batches.specs.Engine.{IsLast}
 use Rattle.update_batches.specs.Batch.{newest_of, Judged}
-use Rattle.update_batches.specs.Done.{replies_to}
-use Rattle.update_batches.specs.Replies.{Reply}
+use Rattle.update_batches.specs.Results.{replies_to}
+use Rattle.update_batches.specs.Reply.{Reply}
 
 -- the state of an update thread: the versions that are published; how many more are sure to find room; the replies to requests; the store; and the requests that were taken, and
 -- wait for their batch

@@ -1,7 +1,7 @@
 //! A list of replies that only clauses read.
 ghost use Rattle.std.specs.Prelude.{◌≡◌, List, [], ◌∷◌, ◌++◌};
 ghost use Rattle.std.specs.Borrow.{ftrue};
-ghost use Rattle.update_batches.specs.Replies.{Reply, reply_of};
+ghost use Rattle.update_batches.specs.Reply.{Reply, reply_of};
 
 use journal::RequestMessages;
 use std::marker::{Model, PhantomData};

@@ -3,8 +3,8 @@ ghost use Rattle.std.specs.Prelude.{◌≡◌, ◌+◌, ◌≤◌, ◌++◌, ℕ
 ghost use Rattle.zone_tree.specs.Version.{Version};
 ghost use Rattle.update_batches.specs.Engine.{IsLast, AreMade};
 ghost use Rattle.update_batches.specs.Batch.{versions_in};
-ghost use Rattle.update_batches.specs.Done.{AreDone, replies_to};
-ghost use Rattle.update_batches.specs.Replies.{Reply};
+ghost use Rattle.update_batches.specs.Results.{AreDone, replies_to};
+ghost use Rattle.update_batches.specs.Reply.{Reply};
 
 use crate::queued_update::QueuedUpdate;
 use crate::verdict::Verdict;

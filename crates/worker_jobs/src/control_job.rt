@@ -3,7 +3,7 @@ ghost use Rattle.std.specs.Prelude.{◌≡◌, Some, IfOk};
 ghost use Rattle.requests.specs.Served.{Grows};
 
 use crate::control_reload::{Reload, Step, after_judging, after_making, order};
-use crate::control_text::{done, failed, stats, status};
+use crate::control_text::{ServedSince, StoreStatus, done, failed, stats, status};
 use crate::progress::Shutdown;
 use crate::reload_slot::{ReloadOrder, Reloads};
 use control_socket::{ControlClient, ControlCommand, Heard, accept_client};
@@ -12,7 +12,9 @@ use std::os::unix::net::UnixListener;
 use std::sync::Wait;
 use std::thread;
 use std::time::{Clock, Duration};
+use update_batches::SharedStoreState;
 use zone_server::{Event, JobEnd, LocalUpdates, ServiceLog};
+use zone_tree::Version;
 
 /// How long the worker waits before it looks again, in milliseconds (own).
 const LOOK: u64 = 25;
@@ -28,6 +30,10 @@ pub struct ControlPlan {
     pub reloads: Option<Reloads>,
     /// How many threads of the server answer no requests, with this one.
     pub beside: usize,
+    /// The number of the version that is served first.
+    pub first: u64,
+    /// What is seen of the store; None where there is none.
+    pub store: Option<SharedStoreState>,
 }
 
 impl Drop for ControlPlan {
@@ -36,6 +42,8 @@ impl Drop for ControlPlan {
             listener: _,
             reloads: _,
             beside: _,
+            first: _,
+            store: _,
         } = self;
     }
 }
@@ -253,15 +261,31 @@ impl<'a, C: Clock> ControlJob<'a, C> {
                 let Ok(version) = handler.last_version(rt) else {
                     return Ok(Obeyed::Reply(failed(self.alloc, "no version can be loaded")?));
                 };
-                let uptime = millis_of(self.clock).saturating_sub(self.begun) / 1000;
                 let text = if command == ControlCommand::Stats {
                     stats(self.alloc, version.get())?
                 } else {
-                    status(self.alloc, version.get(), uptime)?
+                    self.status(rt, version.get())?
                 };
                 Ok(Obeyed::Reply(text))
             }
         }
+    }
+
+    /// What is served, a line for each of it.
+    fn status<R: Wait>(&self, rt: &R, version: &Version) -> Result<String, AllocError> {
+        let store = match &self.plan.store {
+            None => StoreStatus::None,
+            Some(state) => StoreStatus::Kept {
+                fault: state.fault(rt, self.alloc)?,
+                journal: state.journal(),
+                text: state.text(),
+            },
+        };
+        let since = ServedSince {
+            first: self.plan.first,
+            uptime: millis_of(self.clock).saturating_sub(self.begun) / 1000,
+        };
+        status(self.alloc, version, since, &store)
     }
 
     /// Begins a reload, if none is under way.

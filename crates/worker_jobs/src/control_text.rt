@@ -21,16 +21,67 @@ pub(crate) fn failed(alloc: Global, reason: &str) -> Result<String, AllocError> 
     Ok(text)
 }
 
+/// Since when a server serves.
+#[derive(Clone, Copy, Debug, PartialEq, Eq)]
+pub(crate) struct ServedSince {
+    /// The number of the version that it served first.
+    pub(crate) first: u64,
+    /// For how many seconds it has served.
+    pub(crate) uptime: u64,
+}
+
+/// What is seen of a store.
+#[derive(Drop)]
+pub(crate) enum StoreStatus {
+    /// There is none.
+    None,
+    /// There is one.
+    Kept {
+        /// Why the last batch could not be written; none if it was.
+        fault: Option<String>,
+        /// The octets of its journal.
+        journal: u64,
+        /// The number of the zone text that the journal continues.
+        text: u64,
+    },
+}
+
 /// What is served, a line for each of it.
-pub(crate) fn status(alloc: Global, version: &Version, uptime: u64) -> Result<String, AllocError> {
+pub(crate) fn status(
+    alloc: Global,
+    version: &Version,
+    since: ServedSince,
+    store: &StoreStatus,
+) -> Result<String, AllocError> {
     let zone = version.zone();
     let (apex, serial, records) = (zone.apex(), zone.serial().0, count_of(zone));
     let (apex, number) = (apex.to_text(), version.number());
+    let (updates, uptime) = (number.saturating_sub(since.first), since.uptime);
     let mut text = String::new(alloc);
     write!(text, "zone {apex}\nserial {serial}\nrecords {records}\n")?;
-    write!(text, "version {number}\nuptime {uptime}\n")?;
+    write!(text, "version {number}\nupdates {updates}\n")?;
+    put_store(&mut text, store)?;
+    write!(text, "uptime {uptime}\n")?;
     text.push_str(DONE_LINE)?;
     Ok(text)
+}
+
+/// Adds the lines of a store.
+fn put_store(text: &mut String, store: &StoreStatus) -> Result<(), AllocError> {
+    let StoreStatus::Kept {
+        fault,
+        journal,
+        text: number,
+    } = store
+    else {
+        return text.push_str("store none\n");
+    };
+    match fault {
+        None => text.push_str("store ok\n")?,
+        Some(reason) => write!(text, "store failing: {reason}\n")?,
+    }
+    write!(text, "journal {journal}\ntext zone-{number}\n")?;
+    Ok(())
 }
 
 /// The server's numbers, as lines for Prometheus.

@@ -24,7 +24,7 @@ use Rattle.update_batches.proofs.ReadLemmas.{read_is}
 use Rattle.zone_server.specs.UpdateResult.{IsDoneBy, AreResults, queued_results}
 use Rattle.zone_server.proofs.StateLemmas.{done_grows}
 use Rattle.zone_server.proofs.JudgedLemmas.{tells_done, starved_done, made_done}
-use Rattle.update_batches.specs.Done.{first_verdict, IsDone as IsDoneIn, AreDone as AreDoneIn, IsToldIn, IsMadeIn}
+use Rattle.update_batches.specs.Results.{first_verdict, IsDone as IsDoneIn, AreDone as AreDoneIn, IsToldIn, IsMadeIn}
 use Rattle.update_batches.specs.declared.queued_update.QueuedUpdate.{QueuedUpdate}
 use Rattle.serve_core.specs.declared.transport.Transport.{Transport}
 use Rattle.serve_core.specs.Heading.{heading_of_update, coded}

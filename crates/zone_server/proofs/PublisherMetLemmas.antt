@@ -11,7 +11,7 @@ use Rattle.update_batches.proofs.BatchLemmas.{last_once}
 use Rattle.zone_server.specs.UpdateResult.{IsJudgedIn}
 use Rattle.zone_server.specs.declared.server_state.BatchStart.{BatchStart}
 use Rattle.zone_server.specs.QueuedUpdate.{IsBegun, MeetsAt}
-use Rattle.update_batches.specs.Replies.{Reply}
+use Rattle.update_batches.specs.Reply.{Reply}
 use Rattle.update_batches.specs.Batch.{newest_of}
 use Rattle.zone_server.proofs.JudgedLemmas.{made_latest}
 use Rattle.zone_server.specs.Brought.{Brought}

@@ -12,7 +12,7 @@ use Rattle.serve_core.specs.Heading.{heading_of_update, coded}
 use Rattle.serve_core.specs.Transport.{limit_of}
 use Rattle.update_batches.specs.declared.update_request.UpdateRequest.{UpdateRequest}
 use Rattle.update_batches.specs.declared.verdict.Verdict.{Verdict}
-use Rattle.update_batches.specs.Done.{first_verdict}
+use Rattle.update_batches.specs.Results.{first_verdict}
 use Rattle.zone_server.specs.declared.outgoing.Outgoing.{Outgoing}
 use Rattle.zone_server.specs.declared.outgoing.Outgoing.TheVariants.{Wake, Send}
 use Rattle.zone_server.specs.declared.update_result.QueuedResult.{QueuedResult}

@@ -4,7 +4,7 @@ use Rattle.dns_rdata.specs.Record.{Record}
 use Rattle.zone_tree.specs.Version.{Version}
 use Rattle.dns_engine.specs.Held.{EngineState, IsLatest}
 use Rattle.dns_engine.specs.Replayed.{IsReplay}
-use Rattle.update_batches.specs.Replies.{Reply}
+use Rattle.update_batches.specs.Reply.{Reply}
 use Rattle.zone_server.specs.Brought.{Brought}
 
 -- a list begins with another one

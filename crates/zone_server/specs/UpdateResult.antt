@@ -10,7 +10,7 @@ use Rattle.update_core.specs.Act.{act}
 use Rattle.update_core.specs.Applied.{code_of}
 use Rattle.update_batches.specs.declared.verdict.Verdict.{Verdict}
 use Rattle.update_batches.specs.declared.queued_update.QueuedUpdate.{QueuedUpdate}
-use Rattle.update_batches.specs.Done.{first_verdict}
+use Rattle.update_batches.specs.Results.{first_verdict}
 use Rattle.zone_server.specs.declared.update_result.QueuedResult.{QueuedResult}
 use Rattle.update_batches.specs.Engine.{AreMade}
 use Rattle.dns_engine.specs.Chain.{IsPublished}

@@ -5,7 +5,7 @@ ghost use Rattle.serve_core.specs.Transport.{room_of};
 ghost use Rattle.serve_core.specs.declared.transport.Transport.TheVariants.{Udp as ByUdp};
 ghost use Rattle.update_batches.specs.Engine.{IsLast, AreMade};
 ghost use Rattle.update_batches.specs.Batch.{versions_in};
-ghost use Rattle.update_batches.specs.Done.{AreDone, first_verdict, replies_to};
+ghost use Rattle.update_batches.specs.Results.{AreDone, first_verdict, replies_to};
 ghost use Rattle.zone_server.specs.Brought.{brought_after, brought_from, all_brought, AreReplies};
 ghost use Rattle.zone_server.specs.Met.{HasBegun};
 ghost use Rattle.zone_server.specs.UpdateResult.{queued_results};

@@ -7,7 +7,7 @@ use Rattle.journal.specs.Frame.{body_limit}
 use Rattle.store_compaction.specs.RecentUpdates.{TrailState, followed}
 use Rattle.store_compaction.specs.Writer.{trail_of}
 use Rattle.store_server.specs.declared.resume.OpenStore.{OpenStore}
-use Rattle.store_server.specs.Resumed.{WritesOn}
+use Rattle.store_server.specs.Opened.{WritesOn}
 use Rattle.store_server.proofs.ResumedLemmas.{has_fit, has_many, writes_on, followed_keep}
 use Rattle.store_server.proofs.resumed.resume_store.Goals as goal
 

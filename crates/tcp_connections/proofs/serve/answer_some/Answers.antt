@@ -3,7 +3,7 @@ use Rattle.std.proofs.Common.{ℕ, refl, ap, Ok, ◌∙◌, subst}
 use Rattle.requests.specs.Allowed.{IsReplyFrom, IsLaterFrom}
 use Rattle.serve_core.specs.declared.transport.Transport.TheVariants.{Tcp}
 use Rattle.dns_message.specs.Frame.{frame_in}
-use Rattle.requests.specs.Turns.{Turn}
+use Rattle.requests.specs.Exchange.{Exchange}
 use Rattle.tcp_connections.specs.Kept.{Kept, due}
 use Rattle.tcp_connections.proofs.AskedLemmas.{each_itself, each_more, waits_as}
 use Rattle.tcp_connections.proofs.GoingLemmas.{keeps_itself, keeps_more, keeps_turn, keeps_same}
@@ -25,7 +25,7 @@ loop-answered-preserved g c =
     let later = g.A.Handler.seen c.answer.new.handler in
     let k = c.loop-answered.state in
     let m = c.answer.new.self in
-    let moved = subst (λ (n : ℕ). Turn Reply (seen n) (k.held, due k) (later n) (m.held, due m)) so_far.asker (c.in-Ok.ensures.turn (ap (λ s. Ok s) c.in-More.is)) in
+    let moved = subst (λ (n : ℕ). Exchange Reply (seen n) (k.held, due k) (later n) (m.held, due m)) so_far.asker (c.in-Ok.ensures.turn (ap (λ s. Ok s) c.in-More.is)) in
     record {
       grows = each_more _ _ _ so_far.grows c.in-Ok.ensures.grows;
       asker = c.in-Ok.ensures.asker ∙ so_far.asker;

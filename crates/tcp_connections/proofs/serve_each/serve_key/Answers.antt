@@ -5,7 +5,7 @@ use Rattle.serve_core.specs.declared.transport.Transport.TheVariants.{Tcp}
 use Rattle.requests.proofs.TurnLemmas.{grows_itself}
 use Rattle.slab.specs.Slab.{get, with_value, slab_len}
 use Rattle.slab.proofs.SlabLemmas.{Updates-with_value}
-use Rattle.tcp_connections.specs.Links.{seen_of}
+use Rattle.tcp_connections.specs.Connections.{seen_of}
 use Rattle.tcp_connections.proofs.BegunLemmas.{begun_once}
 use Rattle.tcp_connections.proofs.LenLemmas.{where_some, len_kept, counted_none, counted_one}
 use Rattle.tcp_connections.proofs.NextLemmas.{stopped_by_step}

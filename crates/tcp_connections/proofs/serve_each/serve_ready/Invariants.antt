@@ -8,7 +8,7 @@ use Rattle.requests.specs.Served.{BeginsWith}
 use Rattle.tcp_connections.specs.Asked.{EachGrows}
 use Rattle.slab.specs.Slab.{get, slab_len}
 use Rattle.tcp_connections.specs.Ends.{AreCounted}
-use Rattle.tcp_connections.specs.Links.{OwnServed, HasStopped, seen_of}
+use Rattle.tcp_connections.specs.Connections.{OwnServed, HasStopped, seen_of}
 use Rattle.tcp_connections.proofs.serve_each.serve_ready.Given as goal
 
 abbrev pub invariant-loop-key : goal.invariant-loop-key

@@ -1,7 +1,7 @@
 -- The replies so far and those to the updates that are left, with the verdicts that are left, are all.
 use Rattle.std.proofs.Common.{◌≡◌, ◌++◌, take}
 use Rattle.std.specs.Vec.Iter.{drain_items}
-use Rattle.update_batches.specs.Done.{replies_to}
+use Rattle.update_batches.specs.Results.{replies_to}
 use Rattle.test_update_batches.proofs.version_list.note_all.Given as goal
 
 abbrev pub invariant-loop-update : goal.invariant-loop-update

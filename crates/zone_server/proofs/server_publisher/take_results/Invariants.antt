@@ -2,7 +2,7 @@
 use Rattle.std.proofs.Common.{◌≡◌, ◌≤◌, ◌+◌, ◌++◌, length, take}
 use Rattle.std.specs.Prelude.{vec_len, vec_capacity}
 use Rattle.std.specs.Vec.Iter.{drain_items}
-use Rattle.update_batches.specs.Done.{replies_to}
+use Rattle.update_batches.specs.Results.{replies_to}
 use Rattle.zone_server.specs.UpdateResult.{queued_results}
 use Rattle.zone_server.proofs.server_publisher.take_results.Given as goal
 

@@ -28,7 +28,7 @@ use denote.Triple.Walked.{says, Stays, stay_ref, walk_of, AllGo, Goes-ref, Walks
 use Rattle.update_batches.specs.declared.replies.ReplyList.{ReplyList}
 use Rattle.journal.specs.Batch.{Messages}
 use Rattle.journal.specs.contracts.request.RequestMessages as Q
-use Rattle.update_batches.specs.Replies.{reply_of}
+use Rattle.update_batches.specs.Reply.{reply_of}
 use Rattle.update_batches.specs.contracts.replies.ReplyList as T
 use Rattle.update_batches.specs.contracts.replies.ReplyList.note.Key.{name as #it}
 use Rattle.update_batches.specs.contracts.replies.ReplyList.note as it

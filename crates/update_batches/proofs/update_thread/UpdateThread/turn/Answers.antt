@@ -7,7 +7,7 @@ use Rattle.zone_tree.specs.Version.{Version}
 use Rattle.update_batches.specs.declared.queued_update.QueuedUpdate.{QueuedUpdate}
 use Rattle.update_batches.specs.declared.verdict.Verdict.{Verdict}
 use Rattle.update_batches.specs.Batch.{versions_in, IsBatch}
-use Rattle.update_batches.specs.Done.{AreDone, replies_to}
+use Rattle.update_batches.specs.Results.{AreDone, replies_to}
 use Rattle.update_batches.proofs.BatchLemmas.{judged_made}
 use Rattle.update_batches.proofs.DoneLemmas.{published_done}
 use Rattle.update_batches.proofs.ToldLemmas.{made_still, room_left, told_published, take_some, taken_many, told_between, told_tended}

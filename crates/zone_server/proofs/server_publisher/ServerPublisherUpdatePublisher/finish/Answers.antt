@@ -5,7 +5,7 @@ use Rattle.std.proofs.lemmas.List.{length-take}
 use Rattle.zone_tree.specs.Version.{Version}
 use Rattle.update_batches.specs.Engine.{IsLast}
 use Rattle.update_batches.specs.Batch.{newest_of, versions_in}
-use Rattle.update_batches.specs.Done.{AreDone}
+use Rattle.update_batches.specs.Results.{AreDone}
 use Rattle.zone_server.specs.declared.outgoing.Outgoing.{Outgoing}
 use Rattle.zone_server.specs.declared.update_result.QueuedResult.{QueuedResult}
 use Rattle.zone_server.specs.Brought.{Brought, brought_after, brought_for, brought_from, all_brought, AreReplies}

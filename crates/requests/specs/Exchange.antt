@@ -1,12 +1,12 @@
--- One turn of a stream: a request is read and its reply is written (RFC 1035, 4.2.2).
+-- A request of a stream, and its reply (RFC 1035, 4.2.2).
 use Rattle.std.specs.Prelude.{◌≡◌, ℕ, List, ◌++◌}
 use Rattle.dns_message.specs.Frame.{frame_of}
 use Rattle.requests.specs.Octets.{frames_of}
 use Rattle.requests.specs.Served.{Learned, Grows}
 
 module _ {T : Type 0} (IsReply : Learned T → Learned T → List ℕ → List (List ℕ) → Type 0) where
-  -- a turn is made: a request is read, and its reply written
-  pub record Turn (seen : Learned T) (old : List ℕ × List ℕ) (later : Learned T) (new : List ℕ × List ℕ) : Type 0 where
+  -- a request is read from the stream, and its reply is written
+  pub record Exchange (seen : Learned T) (old : List ℕ × List ℕ) (later : Learned T) (new : List ℕ × List ℕ) : Type 0 where
     pub request : List ℕ
     pub messages : List (List ℕ)
     pub grows : Grows later seen

@@ -8,7 +8,7 @@ use Rattle.update_batches.specs.Verdict.{told_verdict, made_verdict, failed}
 use Rattle.update_batches.specs.declared.queued_update.QueuedUpdate.{QueuedUpdate}
 use Rattle.journal.specs.Batch.{Messages}
 use Rattle.update_batches.specs.UpdateRequest.{passes, tells, makes, messages_of, serial_in}
-use Rattle.update_batches.specs.Replies.{Reply}
+use Rattle.update_batches.specs.Reply.{Reply}
 
 -- the first of these verdicts, SERVFAIL where there is none (RFC 2136, 2.2)
 abbrev pub first_verdict : List Verdict → Verdict
