@@ -38,13 +38,10 @@ prints "${input%$'\n'}" check --wide --origin example.test. -
 
 # a byte order mark in front of the text is passed over, of a directive, a comment and a record; one after it isn't
 two=$'x. 60 IN SOA a.x. b.x. 1 2 3 4 5\nx. 60 IN NS a.x.'
-while IFS= read -r line; do
-    input=$'\xef\xbb\xbf'${line% => *}$'\n@ 60 SOA a b 1 2 3 4 5\n@ 60 NS a\n'
-    prints "$two${line##* =>}" check --wide --origin x. -
-done <<'end'
-$TTL 60 =>
-; a zone =>
-end
+for line in '$TTL 60' '; a zone'; do
+    input=$'\xef\xbb\xbf'$line$'\n@ 60 SOA a b 1 2 3 4 5\n@ 60 NS a\n'
+    prints "$two" check --wide --origin x. -
+done
 input=$'\xef\xbb\xbf@ 60 TXT "a"\n@ 60 SOA a b 1 2 3 4 5\n@ 60 NS a\n'
 prints "$two"$'\nx. 60 IN TXT "a"' check --wide --origin x. -
 input=$'\xef\xbb\xbf\xef\xbb\xbf@ 60 SOA a b 1 2 3 4 5\n@ 60 NS a\n'
@@ -139,6 +136,52 @@ i.x. 5 IN TYPE17 \# 8 0141017800014200
 j.x. 5 IN TYPE39 \# 13 074578616d706c65034e455400
 k.x. 5 IN TYPE108 \# 6 00005e00532a
 l.x. 5 IN TYPE65 \# 21 0001000001000602683202683300040004c0000203
+end
+
+# a service's parameters (RFC 9460, D.1 and D.2), and more words of types, as named-compilezone and ldns-read-zone have them
+wide '' --origin x. <<'end'
+$TTL 5
+@ SOA a b 1 2 3 4 5
+@ NS a
+a HTTPS 0 foo.example.com.
+b SVCB 1 .
+c SVCB 16 foo.example.com. port=53
+d SVCB 1 foo.example.com. key667=hello
+e SVCB 1 foo.example.com. key667="hello\210qoo"
+f SVCB 1 foo.example.com. ipv6hint="2001:db8::1,2001:db8::53:1"
+g SVCB 1 example.com. ipv6hint="2001:db8:122:344::192.0.2.33"
+h SVCB 16 foo.example.org. alpn="f\\\\oo\\,bar,h2"
+i HTTPS 1 . alpn=h2 no-default-alpn port=8443 ipv4hint=192.0.2.1,192.0.2.2 ech="AQID" ipv6hint=2001:db8::1
+j NAPTR 100 50 "s" "z3950+I2L+I2C" "" _z3950._tcp.gatech.edu.
+k CERT PGP 0 0 AQID
+l DNSKEY 256 3 RSASHA256 AwEAAcw=
+l CDNSKEY 257 3 13 AwEA Acw=
+m SSHFP 1 1 dd465c09cfa51fb45020cc83316fff21b9ec74ac
+n EUI64 00-00-5e-ef-10-00-00-2a
+o KX 10 a
+o AFSDB 1 a
+o SPF "v=spf1 -all" "more"
+=>
+x. 5 IN SOA a.x. b.x. 1 2 3 4 5
+x. 5 IN NS a.x.
+a.x. 5 IN TYPE65 \# 19 000003666f6f076578616d706c6503636f6d00
+b.x. 5 IN TYPE64 \# 3 000100
+c.x. 5 IN TYPE64 \# 25 001003666f6f076578616d706c6503636f6d00000300020035
+d.x. 5 IN TYPE64 \# 28 000103666f6f076578616d706c6503636f6d00029b000568656c6c6f
+e.x. 5 IN TYPE64 \# 32 000103666f6f076578616d706c6503636f6d00029b000968656c6c6fd2716f6f
+f.x. 5 IN TYPE64 \# 55 000103666f6f076578616d706c6503636f6d000006002020010db800000000000000000000000120010db8000000000000000000530001
+g.x. 5 IN TYPE64 \# 35 0001076578616d706c6503636f6d000006001020010db80122034400000000c0000221
+h.x. 5 IN TYPE64 \# 35 001003666f6f076578616d706c65036f7267000001000c08665c6f6f2c626172026832
+i.x. 5 IN TYPE65 \# 59 00010000010003026832000200000003000220fb00040008c0000201c0000202000500030102030006001020010db8000000000000000000000001
+j.x. 5 IN TYPE35 \# 45 0064003201730d7a333935302b49324c2b49324300065f7a33393530045f746370066761746563680365647500
+k.x. 5 IN TYPE37 \# 8 0003000000010203
+l.x. 5 IN TYPE48 \# 9 0100030803010001cc
+l.x. 5 IN TYPE60 \# 9 0101030d03010001cc
+m.x. 5 IN TYPE44 \# 22 0101dd465c09cfa51fb45020cc83316fff21b9ec74ac
+n.x. 5 IN TYPE109 \# 8 00005eef1000002a
+o.x. 5 IN TYPE18 \# 7 00010161017800
+o.x. 5 IN TYPE36 \# 7 000a0161017800
+o.x. 5 IN TYPE99 \# 17 0b763d73706631202d616c6c046d6f7265
 end
 
 # no TTL is in force: an SOA's MINIMUM is its TTL, and that of the records after it; of another type there is none

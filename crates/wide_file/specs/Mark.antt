@@ -1,5 +1,5 @@
 -- A byte order mark in front of a text.
-use Rattle.std.specs.Prelude.{ℕ, List, [], ◌∷◌, ◌&&◌, ◌==◌, if◌then◌else◌}
+use Rattle.std.specs.Prelude.{ℕ, List, ◌∷◌, ◌&&◌, ◌==◌, if◌then◌else◌}
 
 -- a text without the byte order mark that it may begin with, which is U+FEFF in UTF-8 (RFC 3629, 6)
 abbrev pub after_mark : List ℕ → List ℕ
