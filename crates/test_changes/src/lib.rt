@@ -15,6 +15,8 @@ mod made;
 #[cfg(test)]
 mod outcomes;
 #[cfg(test)]
+mod pairs;
+#[cfg(test)]
 mod places;
 #[cfg(test)]
 mod reading;

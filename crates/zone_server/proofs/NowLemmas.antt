@@ -44,7 +44,7 @@ now_grows first peer request before after out Later is =
     ⊎_elim (λ (u : IsUpdate request × (after ≡ before)). same_grows before after u.1) (λ (t : (transfer : IsTransfer first peer request) × HasLoaded first before after transfer.version). load_grows first before after t.0.version t.1) is
 now_grows first peer request before after out Spent is = same_grows before after is.1.1
 
-met_grows : (first : List Record) (engine : EngineState) (before after : ReaderState Version) → HasMet first engine before after → Grows (learned_by after) (learned_by before)
+pub met_grows : (first : List Record) (engine : EngineState) (before after : ReaderState Version) → HasMet first engine before after → Grows (learned_by after) (learned_by before)
 met_grows first engine before after m = record {
   published = (m.begun.0, ap (λ (r : ReaderState Version). r.seen) m.seen ∙ sym m.begun.1);
   buried = ([], ap (λ (r : ReaderState Version). r.gone) m.seen);
