@@ -1,1 +1,2 @@
 pub mod RightsLemmas
+pub mod SendLemmas
