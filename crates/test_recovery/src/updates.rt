@@ -1,5 +1,8 @@
 //! New stores in directories, and updates that are appended to them.
-ghost use Rattle.std.specs.Prelude.{◌≡◌, ◌≤◌, true, length, IfOk, IfSome};
+ghost use Rattle.std.specs.Prelude.{◌≡◌, ◌≤◌, ◌<◌, true, length, IfOk, IfSome};
+ghost use Rattle.journal.specs.Batch.{batch_of};
+ghost use Rattle.journal.specs.Frame.{body_limit};
+ghost use Rattle.update_batches.specs.Batch.{updates_of as messages_of};
 
 use crate::journals::{ADD_A, ZONE};
 use crate::published::Published;
@@ -113,7 +116,8 @@ pub(crate) fn updates_of(
     from: u16,
     to: u16,
 ) -> Result<Vec<VersionUpdate>, Fail>
-    ensures { IfOk result (λ updates. length updates.items ≤ 64) }
+    ensures count { IfOk result (λ updates. length updates.items ≤ 64) }
+    ensures short { IfOk result (λ updates. length (batch_of (messages_of updates.items)) < body_limit) }
 {
     let requests = queued_of(alloc, from, to)?;
     let mut verdicts = Vec::with_capacity(alloc, requests.len())?;
