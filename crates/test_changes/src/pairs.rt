@@ -1,4 +1,6 @@
 //! Random pairs of zones: the update that takes the one to the other is accepted, and makes of it the zone that it is to become.
+ghost use Rattle.std.specs.Prelude.{◌≡◌, IfSome};
+
 use crate::made::name;
 use dns_rdata::{RData, RRset, RType, Ttl};
 use std::alloc::Global;
@@ -147,7 +149,9 @@ fn put_set(alloc: Global, sets: &mut Vec<RRset>, place: (&str, RType), bits: u8)
 }
 
 /// Data of a type with this octet in it.
-fn data_of(alloc: Global, rtype: RType, octet: u8) -> Option<RData> {
+fn data_of(alloc: Global, rtype: RType, octet: u8) -> Option<RData>
+    ensures { IfSome result (λ d. d.rtype ≡ rtype.0) }
+{
     let (before, after): (&[u8], &[u8]) = match rtype {
         RType::A => (&[192, 0, 2], &[]),
         RType::NS | RType::CNAME => (&[1], &[0]),

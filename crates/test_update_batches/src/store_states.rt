@@ -21,7 +21,7 @@ fn seen<R: Wait + AllocGlobal>(rt: &R, state: &StoreState) -> Result<Shown, Fail
 }
 
 /// A state with this fault, as it should be seen.
-fn shown<R: AllocGlobal>(
+fn expected<R: AllocGlobal>(
     rt: &R,
     journal: u64,
     text: u64,
@@ -42,13 +42,13 @@ fn shown<R: AllocGlobal>(
 fn state_is_what_was_shown_last(rt: HostRuntime) -> Result<(), Fail> {
     let alloc = rt.alloc();
     let state = StoreState::new();
-    assert!(rt; seen(&rt, &state)? == shown(&rt, 0, 0, None)?);
+    assert!(rt; seen(&rt, &state)? == expected(&rt, 0, 0, None)?);
     state.show_journal(156, 3);
     state.show_fault(&rt, Some(format!(in alloc; "the journal is full")?));
-    let full = shown(&rt, 156, 3, Some("the journal is full"))?;
+    let full = expected(&rt, 156, 3, Some("the journal is full"))?;
     assert!(rt; seen(&rt, &state)? == full);
     state.show_fault(&rt, None);
     state.show_journal(4096, 4);
-    assert!(rt; seen(&rt, &state)? == shown(&rt, 4096, 4, None)?);
+    assert!(rt; seen(&rt, &state)? == expected(&rt, 4096, 4, None)?);
     Ok(())
 }
