@@ -1,19 +1,53 @@
 //! What others see of a thread's numbers.
+use crate::counter::Counter;
 use crate::counters::Counters;
+use crate::transfer::Transfer;
 use crossbeam_utils::CachePadded;
+use std::sync::atomic::{AtomicU64, Ordering};
 use std::sync::{Mutex, Wait};
+
+/// The numbers that a thread showed last, and how often it has shown its numbers.
+#[derive(Clone, Copy)]
+struct Shown {
+    counters: Counters,
+    rounds: u64,
+}
+
+/// What is counted of replies of several messages, which others than the thread's handler make.
+#[derive(Drop)]
+struct Streamed {
+    octets: AtomicU64,
+    transfers: [AtomicU64; 6],
+}
 
 /// What others see of a thread's numbers: those that it showed last.
 #[derive(Drop)]
 pub struct SharedCounters {
-    last: CachePadded<Mutex<Counters>>,
+    last: CachePadded<Mutex<Shown>>,
+    streamed: CachePadded<Streamed>,
 }
 
 impl SharedCounters {
     /// Nothing was counted yet.
     pub fn new() -> SharedCounters {
+        let shown = Shown {
+            counters: Counters::new(),
+            rounds: 0,
+        };
+        let streamed = Streamed {
+            octets: AtomicU64::new(0),
+            transfers: [
+                AtomicU64::new(0),
+                AtomicU64::new(0),
+                AtomicU64::new(0),
+                AtomicU64::new(0),
+                AtomicU64::new(0),
+                AtomicU64::new(0),
+            ],
+        };
         SharedCounters {
-            last: CachePadded::new(Mutex::new(Counters::new())),
+            last: CachePadded::new(Mutex::new(shown)),
+            streamed: CachePadded::new(streamed),
         }
     }
 
@@ -21,16 +55,49 @@ impl SharedCounters {
     pub fn show(&self, counters: &Counters) -> bool {
         match self.last.try_lock() {
             Some(mut last) => {
-                *last = *counters;
+                last.counters = *counters;
+                last.rounds = last.rounds.saturating_add(1);
                 true
             }
             None => false,
         }
     }
 
-    /// Adds the numbers that were shown last to others.
-    pub fn add_to<R: Wait>(&self, rt: &R, sum: &mut Counters) {
-        let last = self.last.lock(rt);
-        sum.add_all(&last);
+    /// Counts octets of a message of a reply that has several.
+    pub fn stream_octets(&self, octets: u64) {
+        self.streamed.octets.fetch_add(octets, Ordering::SeqCst);
+    }
+
+    /// Counts a transfer of several messages, whose first one is sent.
+    pub fn stream_transfer(&self, transfer: Transfer) {
+        self.streamed.transfers[transfer.index()].fetch_add(1, Ordering::SeqCst);
+    }
+
+    /// Counts so many more of a counter, beside the numbers that a thread shows.
+    pub fn add_many<R: Wait>(&self, rt: &R, counter: Counter, more: u64) {
+        self.last.lock(rt).counters.add_many(counter, more);
+    }
+
+    /// Counts how long an update took, in nanoseconds, beside the numbers that a thread shows.
+    pub fn add_update<R: Wait>(&self, rt: &R, nanoseconds: u64) {
+        self.last.lock(rt).counters.updates.add(nanoseconds);
+    }
+
+    /// Counts how long a sync of the store took, in nanoseconds, beside the numbers that a thread shows.
+    pub fn add_sync<R: Wait>(&self, rt: &R, nanoseconds: u64) {
+        self.last.lock(rt).counters.syncs.add(nanoseconds);
+    }
+
+    /// Adds the numbers that were shown last to others, and gives how often numbers were shown.
+    pub fn add_to<R: Wait>(&self, rt: &R, sum: &mut Counters) -> u64 {
+        let shown = *self.last.lock(rt);
+        sum.add_all(&shown.counters);
+        let octets = self.streamed.octets.load(Ordering::SeqCst);
+        sum.add_many(Counter::SentOctets, octets);
+        for transfer in Transfer::ALL {
+            let count = self.streamed.transfers[transfer.index()].load(Ordering::SeqCst);
+            sum.add_many(Counter::Transfer(transfer), count);
+        }
+        shown.rounds
     }
 }

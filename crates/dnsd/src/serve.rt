@@ -5,9 +5,11 @@ ghost use Rattle.dnsd_setup.specs.Starts.{CanStart};
 
 use crate::control::{NotBound, control_for, unbind_control};
 use crate::key_rights::{may_update, rights_for, shared_keys};
+use crate::metrics::{counters_for, metrics_for};
 use crate::secondaries::{SecondarySockets, secondaries_for};
 use crate::thread_specs::{thread_specs_for, work_limits_of};
-use command_line::{BAD_COMMAND, MAX_THREADS, Serve, StorePlan, is_routed};
+use crate::warnings::{warn, warn_of_zone};
+use command_line::{BAD_COMMAND, MAX_THREADS, Serve, StorePlan};
 use commands::{DONE, FAILED};
 use dnsd_setup::{
     BoundSockets, Entries, FileReader, Listening, Log, LogLine, ServedZone, StartedZone,
@@ -15,11 +17,10 @@ use dnsd_setup::{
     start_store_for, tell_outside, text_for,
 };
 use key_file::KeyFile;
-use notify::large_in;
 use requests::Allowed;
 use serve_workers::{
-    ConnectionPlan, ControlPlan, Most, Plan, ServeFault, Shutdown, ThreadSpec, UpdateConfig,
-    WorkLimit, serve_zone,
+    ConnectionPlan, ControlPlan, MetricsPlan, Most, Plan, ServeFault, Shutdown, ThreadSpec,
+    UpdateConfig, WorkLimit, serve_zone,
 };
 use std::alloc::Global;
 use std::fs::{File, Files};
@@ -189,6 +190,8 @@ struct Bound {
     entries: Entries,
     /// What the thread needs that takes the operator's commands, if there is one.
     control: Option<ControlPlan>,
+    /// What the thread needs that tells metrics, if there is one.
+    metrics: Option<MetricsPlan>,
 }
 
 /// Binds all sockets, and starts the log's thread. None if an address cannot be listened on or a secondary cannot be notified; standard error then
@@ -222,6 +225,11 @@ fn bind<
         Ok(None) => return Ok(None),
         Err(fault) => return Err(fault),
     };
+    let metrics = match metrics_for(rt, serve) {
+        Ok(Ok(metrics)) => metrics,
+        Ok(Err(NotBound)) => return Ok(None),
+        Err(fault) => return Err(fault),
+    };
     let entries = match start_entries(rt) {
         Ok(entries) => entries,
         Err(fault) => return Err(io::Error::from(fault)),
@@ -236,6 +244,7 @@ fn bind<
         secondaries,
         entries,
         control,
+        metrics,
     }))
 }
 
@@ -276,12 +285,23 @@ fn serve_on_sockets<
         secondaries,
         entries,
         control,
+        metrics,
     } = bound;
     let (workers, addresses, kept) = sockets.into_parts();
     let log = Log::new(entries, listening_for(serve, &begun, addresses, kept));
     warn(rt, serve, &log);
     warn_of_zone(rt, serve, &begun, &log);
-    let served = serve_on_workers(rt, serve, begun, workers, secondaries, keys, control, &log);
+    let served = serve_on_workers(
+        rt,
+        serve,
+        begun,
+        workers,
+        secondaries,
+        keys,
+        control,
+        metrics,
+        &log,
+    );
     let status = status_of(rt, served, &log);
     log.end(rt);
     Ok(status)
@@ -303,29 +323,6 @@ fn listening_for(
         loses_updates: serve.store.is_none() && may_update(serve),
         kept,
         wanted: serve.udp_buffer,
-    }
-}
-
-/// Logs warnings of what may differ from what the operator expects.
-fn warn<R: Wait>(rt: &R, serve: &Serve<'_>, log: &Log) {
-    for address in serve.listen.iter() {
-        if address.ip().is_unspecified() {
-            log.add(rt, LogLine::Wildcard(*address));
-        }
-    }
-    if is_routed(serve.secondaries.as_slice(), serve.listen.as_slice()) {
-        log.add(rt, LogLine::Routed);
-    }
-}
-
-/// Logs warnings of a zone whose apex is the root, if no origin was given, and of one that stock secondaries would not accept.
-fn warn_of_zone<R: Wait>(rt: &R, serve: &Serve<'_>, begun: &StartedZone, log: &Log) {
-    let zone = begun.zone();
-    if zone.apex().is_root() && !serve.has_origin {
-        log.add(rt, LogLine::RootApex);
-    }
-    if let Some(large) = large_in(zone) {
-        log.add(rt, LogLine::Large(large));
     }
 }
 
@@ -379,6 +376,7 @@ fn serve_on_workers<
     secondaries: SecondarySockets,
     keys: Option<&KeyFile>,
     control: Option<ControlPlan>,
+    metrics: Option<MetricsPlan>,
     log: &Log,
 ) -> Result<(), ServeFault>
     requires { CanStart begun }
@@ -394,6 +392,7 @@ fn serve_on_workers<
         sockets,
         secondaries,
         control,
+        metrics,
         apex,
         &progresses,
         &telling,
@@ -440,6 +439,9 @@ fn serve_with_specs<
     let Ok(rights) = rights_for(alloc, keys, serve.key_rules.as_slice()) else {
         return Err(ServeFault::NoMemory);
     };
+    let Ok(counters) = counters_for(alloc, serve) else {
+        return Err(ServeFault::NoMemory);
+    };
     let shutdown = Shutdown::new(specs.len());
     let plan = Plan {
         shutdown: &shutdown,
@@ -450,6 +452,7 @@ fn serve_with_specs<
             allowed: Allowed::new(alloc, serve.rules.as_slice()),
         },
         keys: shared_keys(keys, rights.as_slice()),
+        counters: counters.as_ref(),
     };
     let texts = ThreadTextWriter::new(*rt, dir);
     let most = Most {

@@ -17,37 +17,37 @@ opcode_of octets = octet_at octets 2 / 8 % 16
 abbrev pub is_truncated : List ℕ → Bool
 is_truncated octets = octet_at octets 2 / 2 % 2 == 1
 
--- what stands after a name in full, of whose label so many octets are left: labels of 1 to 63 octets, each after its length, and the
--- length 0 (RFC 1035, 3.1)
-abbrev pub after_name : ℕ → List ℕ → Option (List ℕ)
-after_name left [] = None
-after_name zero (len ∷ octets) = if len == 0 then Some octets else if nat_lt 63 len then None else after_name len octets
-after_name (suc left) (octet ∷ octets) = after_name left octets
+-- the position after a name in full, at a position of it, of whose label so many octets are left, and what stands there: labels of 1 to 63
+-- octets, each after its length, and the length 0 (RFC 1035, 3.1)
+abbrev pub name_end : ℕ → ℕ → List ℕ → Option ℕ
+name_end at left [] = None
+name_end at zero (len ∷ octets) = if len == 0 then Some (at + 1) else if nat_lt 63 len then None else name_end (at + 1) len octets
+name_end at (suc left) (octet ∷ octets) = name_end (at + 1) left octets
 
--- what stands after the name of the first question
-abbrev pub after_first_name : List ℕ → Option (List ℕ)
-after_first_name octets = if number_at octets 4 == 0 then None else after_name 0 (drop 12 octets)
+-- the position after the name of the first question, which stands after the header
+abbrev pub first_name_end : List ℕ → Option ℕ
+first_name_end octets = if number_at octets 4 == 0 then None else name_end 12 0 (drop 12 octets)
 
--- the type after a question's name (RFC 1035, 4.1.2)
-abbrev pub type_in : List ℕ → Option ℕ
-type_in rest = if nat_lt (length rest) 2 then None else Some (number_at rest 0)
+-- the type at a position (RFC 1035, 4.1.2)
+abbrev pub type_at : List ℕ → ℕ → Option ℕ
+type_at octets at = if nat_lt (length octets) (at + 2) then None else Some (number_at octets at)
 
--- the type of the first question
+-- the type of the first question, which comes after its name
 abbrev pub question_type : List ℕ → Option ℕ
-question_type octets = option_and_then type_in (after_first_name octets)
+question_type octets = option_and_then (type_at octets) (first_name_end octets)
 
 -- the upper eight bits of an RCODE in an OPT at a position: the root, type 41, a class, and then they (RFC 6891, 6.1.2 and 6.1.3)
 abbrev pub opt_code : List ℕ → ℕ → ℕ
 opt_code octets at = if octet_at octets at == 0 && number_at octets (at + 1) == 41 then octet_at octets (at + 5) else 0
 
 -- the same in an OPT after the first question's type and class, or after the header where there is no question
-abbrev pub opt_code_after : List ℕ → Option (List ℕ) → ℕ
+abbrev pub opt_code_after : List ℕ → Option ℕ → ℕ
 opt_code_after octets None = opt_code octets 12
-opt_code_after octets (Some rest) = opt_code rest 4
+opt_code_after octets (Some at) = opt_code octets (at + 4)
 
 -- the upper eight bits of a message's RCODE, where no answer or authority comes before the OPT
 abbrev pub high_code : List ℕ → ℕ
-high_code octets = if number_at octets 6 == 0 && number_at octets 8 == 0 then opt_code_after octets (after_first_name octets) else 0
+high_code octets = if number_at octets 6 == 0 && number_at octets 8 == 0 then opt_code_after octets (first_name_end octets) else 0
 
 -- RCODE: the fourth octet's last four bits, and those of the OPT above them (RFC 1035, 4.1.1; RFC 6891, 6.1.3)
 abbrev pub rcode_of : List ℕ → ℕ

@@ -1,27 +1,31 @@
 //! What a request and a reply add to the counters.
 ghost use Rattle.std.specs.Prelude.{◌≡◌, length};
 ghost use Rattle.counters.specs.Counters.{with_counts};
+ghost use Rattle.message_counts.specs.Places.{question_type};
 ghost use Rattle.message_counts.specs.Counts.{request_counts, reply_counts, more_counts, question_counts, update_counts, truncated_counts};
 
 use crate::places::{is_truncated, opcode_of, question_type, rcode_of};
 use counters::{AddressFamily, Counter, Counters, Opcode, Qtype, Rcode, Transport};
 
 /// Counts a request: by its transport and its peer's address, by its OPCODE and by its question's type, and its octets. A request
-/// without a question that can be read counts by no type.
+/// without a question that can be read counts by no type. Returns that type.
 pub fn count_request(
     counters: &mut Counters,
     transport: Transport,
     family: AddressFamily,
     request: &[u8],
-)
-    ensures { counters.new ≡ with_counts (request_counts transport family request.now) counters.old }
+) -> Option<u16>
+    ensures counts { counters.new ≡ with_counts (request_counts transport family request.now) counters.old }
+    ensures asked { result ≡ question_type request.now }
 {
     counters.add(Counter::Request(transport, family));
     counters.add(Counter::Opcode(Opcode::of(opcode_of(request))));
     counters.add_many(Counter::ReceivedOctets, request.len() as u64);
-    if let Some(number) = question_type(request) {
+    let qtype = question_type(request);
+    if let Some(number) = qtype {
         counters.add(Counter::Question(Qtype::of(number)));
     }
+    qtype
 }
 
 /// Counts a reply of one message, or the first message of one: by its RCODE, of an update also as that, whether it is truncated, and its

@@ -54,7 +54,7 @@ fn path_to<'a>(spec: &ThreadSpec<'_>, updates: &'a Updates, place: usize) -> io:
             None => Ok(Path::Nowhere),
         },
         // The thread that takes commands looks for the result of its update itself.
-        Sockets::Secondaries(_) | Sockets::Control(_) => Ok(Path::Nowhere),
+        Sockets::Secondaries(_) | Sockets::Control(_) | Sockets::Metrics(_) => Ok(Path::Nowhere),
     }
 }
 

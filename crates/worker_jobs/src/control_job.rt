@@ -6,13 +6,17 @@ use crate::control_reload::{Reload, Step, after_judging, after_making, order};
 use crate::control_text::{done, failed, stats, status};
 use crate::progress::Shutdown;
 use crate::reload_slot::{ReloadOrder, Reloads};
+use crate::served_facts::{About, RecordCount, metrics_of};
 use control_socket::{ControlClient, ControlCommand, Heard, accept_client};
+use counters::ServerCounters;
+use signed_replies::{SystemClock, UnixClock};
 use std::alloc::{AllocError, Global};
 use std::os::unix::net::UnixListener;
 use std::sync::Wait;
 use std::thread;
 use std::time::{Clock, Duration};
 use zone_server::{Event, JobEnd, LocalUpdates, ServiceLog};
+use zone_tree::Version;
 
 /// How long the worker waits before it looks again, in milliseconds (own).
 const LOOK: u64 = 25;
@@ -28,6 +32,8 @@ pub struct ControlPlan {
     pub reloads: Option<Reloads>,
     /// How many threads of the server answer no requests, with this one.
     pub beside: usize,
+    /// What the server is.
+    pub about: About,
 }
 
 impl Drop for ControlPlan {
@@ -36,6 +42,7 @@ impl Drop for ControlPlan {
             listener: _,
             reloads: _,
             beside: _,
+            about: _,
         } = self;
     }
 }
@@ -46,12 +53,16 @@ pub struct ControlJob<'a, C> {
     pub number: usize,
     alloc: Global,
     plan: ControlPlan,
+    /// What the server's threads count, if they do.
+    counters: Option<&'a ServerCounters>,
     clients: Vec<ControlClient>,
     reload: Reload,
     clock: &'a C,
     shutdown: &'a Shutdown,
-    /// When it was made, in milliseconds.
+    /// When it was made, in milliseconds of a monotonic clock, and in seconds since 1970.
     begun: u64,
+    started: u64,
+    records: RecordCount,
     obeyed: u64,
     end: Option<JobEnd>,
 }
@@ -62,11 +73,14 @@ impl<'a, C> Drop for ControlJob<'a, C> {
             number: _,
             alloc: _,
             plan: _,
+            counters: _,
             clients: _,
             reload: _,
             clock: _,
             shutdown: _,
             begun: _,
+            started: _,
+            records: _,
             obeyed: _,
             end: _,
         } = self;
@@ -88,6 +102,7 @@ impl<'a, C: Clock> ControlJob<'a, C> {
         alloc: Global,
         number: usize,
         plan: ControlPlan,
+        counters: Option<&'a ServerCounters>,
         clock: &'a C,
         shutdown: &'a Shutdown,
     ) -> Result<ControlJob<'a, C>, AllocError>
@@ -97,11 +112,14 @@ impl<'a, C: Clock> ControlJob<'a, C> {
             number,
             alloc,
             plan,
+            counters,
             clients: Vec::with_capacity(alloc, CLIENTS)?,
             reload: Reload::Idle,
             clock,
             shutdown,
             begun: millis_of(clock),
+            started: SystemClock::new(clock).now(),
+            records: RecordCount::new(),
             obeyed: 0,
             end: None,
         })
@@ -253,15 +271,38 @@ impl<'a, C: Clock> ControlJob<'a, C> {
                 let Ok(version) = handler.last_version(rt) else {
                     return Ok(Obeyed::Reply(failed(self.alloc, "no version can be loaded")?));
                 };
-                let uptime = millis_of(self.clock).saturating_sub(self.begun) / 1000;
                 let text = if command == ControlCommand::Stats {
-                    stats(self.alloc, version.get())?
+                    self.stats(rt, version.get())?
                 } else {
+                    let uptime = millis_of(self.clock).saturating_sub(self.begun) / 1000;
                     status(self.alloc, version.get(), uptime)?
                 };
                 Ok(Obeyed::Reply(text))
             }
         }
+    }
+
+    /// The lines for Prometheus.
+    fn stats<R: Wait>(&mut self, rt: &R, version: &Version) -> Result<String, AllocError>
+        ensures number { self.new.number ≡ self.old.number }
+    {
+        let records = self.records.of(version);
+        let (about, started) = (self.plan.about, self.started);
+        let lines = match self.counters {
+            Some(server) => {
+                let sum = server.sum(rt, &mut Vec::new(self.alloc));
+                metrics_of(
+                    self.alloc,
+                    about,
+                    started,
+                    version,
+                    records,
+                    Some((server, &sum)),
+                )?
+            }
+            None => metrics_of(self.alloc, about, started, version, records, None)?,
+        };
+        stats(self.alloc, &lines)
     }
 
     /// Begins a reload, if none is under way.

@@ -102,6 +102,11 @@ pub enum Event {
         /// The reason why it ended.
         end: JobEnd,
     },
+    /// The thread that tells metrics has ended.
+    MetricsEnd {
+        /// The reason why it ended.
+        end: JobEnd,
+    },
     /// The thread that notifies secondaries has ended.
     Unlogged {
         /// The reason why it ended.
@@ -248,6 +253,10 @@ impl Display for Event {
                 f.write_str("control thread exited: ")?;
                 write_control(f, *end)
             }
+            Event::MetricsEnd { end } => {
+                f.write_str("metrics thread exited: ")?;
+                write_metrics(f, *end)
+            }
             Event::Unlogged { end } => {
                 f.write_str("notify thread exited: ")?;
                 write_unlogged(f, *end)
@@ -338,6 +347,14 @@ fn write_unlogged<W: fmt::Write>(f: &mut Formatter<W>, end: JobEnd) -> fmt::Resu
 fn write_control<W: fmt::Write>(f: &mut Formatter<W>, end: JobEnd) -> fmt::Result {
     match end {
         JobEnd::Done(count) => write!(f, "{count} commands served"),
+        other => write_end(f, other),
+    }
+}
+
+/// Writes the reason why the thread that tells metrics ended.
+fn write_metrics<W: fmt::Write>(f: &mut Formatter<W>, end: JobEnd) -> fmt::Result {
+    match end {
+        JobEnd::Done(count) => write!(f, "{count} requests served"),
         other => write_end(f, other),
     }
 }

@@ -1,0 +1,57 @@
+//! What is counted and told of a running server: the socket for metrics, and the counters of its threads.
+use crate::control::NotBound;
+use command_line::{Serve, VERSION};
+use counters::ServerCounters;
+use dnsd_setup::bind_metrics;
+use serve_workers::{About, MetricsPlan};
+use std::alloc::{AllocError, Global};
+use std::io;
+use std::net::Net;
+use std::rt::Env;
+
+/// What the server is.
+pub fn about_of(serve: &Serve<'_>) -> About {
+    About {
+        program: VERSION,
+        has_store: serve.store.is_some(),
+    }
+}
+
+/// How many threads of the server answer no requests.
+pub fn beside_of(serve: &Serve<'_>) -> usize {
+    let notifying = if serve.secondaries.is_empty() { 0 } else { 1 };
+    let controlling = if serve.control.is_some() { 1 } else { 0 };
+    let telling = if serve.metrics.is_some() { 1 } else { 0 };
+    notifying + controlling + telling
+}
+
+/// Binds the socket for metrics, if they are told: what a thread needs that tells them.
+pub fn metrics_for<R: Net + Env + Eprint + AllocGlobal>(
+    rt: &R,
+    serve: &Serve<'_>,
+) -> io::Result<Result<Option<MetricsPlan>, NotBound>> {
+    let Some(address) = serve.metrics else {
+        return Ok(Ok(None));
+    };
+    match bind_metrics(rt, address) {
+        Ok(Some(listener)) => Ok(Ok(Some(MetricsPlan {
+            listener,
+            beside: beside_of(serve),
+            about: about_of(serve),
+        }))),
+        Ok(None) => Ok(Err(NotBound)),
+        Err(fault) => Err(fault),
+    }
+}
+
+/// Where the threads that answer requests show what they count, if metrics are told. The fault is a request for memory that was refused.
+pub fn counters_for(
+    alloc: Global,
+    serve: &Serve<'_>,
+) -> Result<Option<ServerCounters>, AllocError> {
+    if serve.metrics.is_none() {
+        return Ok(None);
+    }
+    let threads = serve.workers * (serve.listen.len() + 1);
+    Ok(Some(ServerCounters::new(alloc, threads)?))
+}
