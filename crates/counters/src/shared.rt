@@ -75,29 +75,32 @@ impl SharedCounters {
 
     /// Counts so many more of a counter, beside the numbers that a thread shows.
     pub fn add_many<R: Wait>(&self, rt: &R, counter: Counter, more: u64) {
-        self.last.lock(rt).counters.add_many(counter, more);
+        let mut last = self.last.lock(rt);
+        last.counters.add_many(counter, more);
     }
 
     /// Counts how long an update took, in nanoseconds, beside the numbers that a thread shows.
     pub fn add_update<R: Wait>(&self, rt: &R, nanoseconds: u64) {
-        self.last.lock(rt).counters.updates.add(nanoseconds);
+        let mut last = self.last.lock(rt);
+        last.counters.updates.add(nanoseconds);
     }
 
     /// Counts how long a sync of the store took, in nanoseconds, beside the numbers that a thread shows.
     pub fn add_sync<R: Wait>(&self, rt: &R, nanoseconds: u64) {
-        self.last.lock(rt).counters.syncs.add(nanoseconds);
+        let mut last = self.last.lock(rt);
+        last.counters.syncs.add(nanoseconds);
     }
 
     /// Adds the numbers that were shown last to others, and gives how often numbers were shown.
     pub fn add_to<R: Wait>(&self, rt: &R, sum: &mut Counters) -> u64 {
-        let shown = *self.last.lock(rt);
-        sum.add_all(&shown.counters);
+        let last = self.last.lock(rt);
+        sum.add_all(&last.counters);
         let octets = self.streamed.octets.load(Ordering::SeqCst);
         sum.add_many(Counter::SentOctets, octets);
         for transfer in Transfer::ALL {
             let count = self.streamed.transfers[transfer.index()].load(Ordering::SeqCst);
             sum.add_many(Counter::Transfer(transfer), count);
         }
-        shown.rounds
+        last.rounds
     }
 }

@@ -33,8 +33,13 @@ pub fn server_families(
     families: &mut Vec<Family>,
     facts: Facts<'_>,
 ) -> Result<(), AllocError> {
-    let build = ("dnsd_build_info", "The version of the program", GAUGE);
-    families.push(labelled_single(alloc, build, "version", facts.version, 1)?)?;
+    let build = Family::new(
+        alloc,
+        "dnsd_build_info",
+        "The version of the program",
+        GAUGE,
+    );
+    families.push(labelled_single(build, alloc, "version", facts.version, 1)?)?;
     families.push(single(
         alloc,
         "process_start_time_seconds",
@@ -42,16 +47,20 @@ pub fn server_families(
         GAUGE,
         facts.started,
     )?)?;
-    let serial = ("dnsd_zone_serial", "The serial of the zone", GAUGE);
-    families.push(labelled_single(alloc, serial, ZONE, facts.zone, u64::from(facts.serial))?)?;
-    let records = ("dnsd_zone_records", "How many records the zone has", GAUGE);
-    families.push(labelled_single(alloc, records, ZONE, facts.zone, facts.records)?)?;
-    let versions = (
-        "dnsd_zone_versions_total",
-        "Versions of the zone that were published after the first",
-        COUNTER,
-    );
-    families.push(labelled_single(alloc, versions, ZONE, facts.zone, facts.versions)?)?;
+    put_zone(alloc, families, facts)
+}
+
+/// Puts the families of what is known of the zone after others.
+fn put_zone(alloc: Global, families: &mut Vec<Family>, facts: Facts<'_>) -> Result<(), AllocError> {
+    let (zone, serial) = (facts.zone, u64::from(facts.serial));
+    let family = Family::new(alloc, "dnsd_zone_serial", "The serial of the zone", GAUGE);
+    families.push(labelled_single(family, alloc, ZONE, zone, serial)?)?;
+    let help = "How many records the zone has";
+    let family = Family::new(alloc, "dnsd_zone_records", help, GAUGE);
+    families.push(labelled_single(family, alloc, ZONE, zone, facts.records)?)?;
+    let help = "Versions of the zone that were published after the first";
+    let family = Family::new(alloc, "dnsd_zone_versions_total", help, COUNTER);
+    families.push(labelled_single(family, alloc, ZONE, zone, facts.versions)?)?;
     Ok(())
 }
 

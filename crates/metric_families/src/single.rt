@@ -21,15 +21,17 @@ pub(crate) fn single(
     Ok(family)
 }
 
-/// A family of one sample with one label. The fault is a request for memory that was refused.
+/// A family with one sample more, which has one label. The fault is a request for memory that was refused.
 pub(crate) fn labelled_single(
+    family: Family,
     alloc: Global,
-    (name, help, kind): (&'static str, &'static str, Kind),
     label: &'static str,
     value: &str,
     number: u64,
-) -> Result<Family, AllocError> {
-    let mut family = Family::new(alloc, name, help, kind);
+) -> Result<Family, AllocError>
+    ensures { IfOk result (λ more. more ≡ with_sample family (one_label label.now value.now number)) }
+{
+    let mut family = family;
     put_labelled(&mut family, alloc, label, value, number)?;
     Ok(family)
 }

@@ -290,7 +290,8 @@ impl<'a, C: Clock> ControlJob<'a, C> {
         let (about, started) = (self.plan.about, self.started);
         let lines = match self.counters {
             Some(server) => {
-                let sum = server.sum(rt, &mut Vec::new(self.alloc));
+                let mut rounds = Vec::new(self.alloc);
+                let sum = server.sum(rt, &mut rounds);
                 metrics_of(
                     self.alloc,
                     about,

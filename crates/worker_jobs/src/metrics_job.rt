@@ -205,7 +205,7 @@ impl<'a, C: Clock> MetricsJob<'a, C> {
             return;
         }
         self.looked_at = now;
-        let Some(sum) = self.sum(rt, now) else {
+        let Some((_, sum)) = self.sum(rt, now) else {
             return;
         };
         let passed = now.saturating_sub(self.rated_at);
@@ -219,15 +219,15 @@ impl<'a, C: Clock> MetricsJob<'a, C> {
         }
     }
 
-    /// The numbers of all threads together; None where nothing is counted. It is noted which threads have gone round.
-    fn sum<R: Wait>(&mut self, rt: &R, now: u64) -> Option<Counters>
+    /// The counters, and the numbers of all threads together; None where nothing is counted. It is noted which threads have gone round.
+    fn sum<R: Wait>(&mut self, rt: &R, now: u64) -> Option<(&'a ServerCounters, Counters)>
         ensures number { self.new.number ≡ self.old.number }
     {
         let counters = self.counters?;
         let mut rounds = Vec::new(self.alloc);
         let sum = counters.sum(rt, &mut rounds);
         let _ = self.threads.note(rounds.as_slice(), now);
-        Some(sum)
+        Some((counters, sum))
     }
 
     /// Reads what the clients have sent, and answers their requests.
@@ -313,10 +313,10 @@ impl<'a, C: Clock> MetricsJob<'a, C> {
         ensures number { self.new.number ≡ self.old.number }
     {
         let records = self.records.of(version);
-        let sum = self.sum(rt, now);
-        let counted = match (self.counters, &sum) {
-            (Some(server), Some(sum)) => Some((server, sum)),
-            _ => None,
+        let summed = self.sum(rt, now);
+        let counted = match &summed {
+            Some((server, sum)) => Some((*server, sum)),
+            None => None,
         };
         let about = self.plan.about;
         let body = metrics_of(self.alloc, about, self.started, version, records, counted)?;
@@ -331,12 +331,17 @@ impl<'a, C: Clock> MetricsJob<'a, C> {
         replied(self.alloc, health.status(), Content::Text, &body)
     }
 
-    /// Whether the server is healthy.
-    fn health_at(&self, now: u64) -> Health {
-        let is_failing = match self.counters {
+    /// Whether the last write of the store failed.
+    fn is_store_failing(&self) -> bool {
+        match self.counters {
             Some(counters) => counters.is_store_failing(),
             None => false,
-        };
+        }
+    }
+
+    /// Whether the server is healthy.
+    fn health_at(&self, now: u64) -> Health {
+        let is_failing = self.is_store_failing();
         health_of(
             self.shutdown.is_ending(),
             is_failing,
@@ -363,10 +368,12 @@ impl<'a, C: Clock> MetricsJob<'a, C> {
         let mut graphs = Vec::new(alloc);
         graphs.push(self.queries.graph(alloc, "Requests in each second")?)?;
         graphs.push(self.updates.graph(alloc, "Updates in each second")?)?;
-        let store = match self.counters {
-            _ if !self.plan.about.has_store => "none",
-            Some(counters) if counters.is_store_failing() => "failing",
-            _ => "ok",
+        let store = if !self.plan.about.has_store {
+            "none"
+        } else if self.is_store_failing() {
+            "failing"
+        } else {
+            "ok"
         };
         Ok(Overview {
             zone: String::from_str(alloc, zone.apex().to_text().as_str())?,
@@ -385,10 +392,9 @@ impl<'a, C: Clock> MetricsJob<'a, C> {
 fn requests_in(sum: &Counters) -> u64 {
     let mut requests = 0u64;
     for transport in Transport::ALL {
-        let [four, six] = AddressFamily::ALL;
         requests = requests
-            .saturating_add(sum.get(Counter::Request(transport, four)))
-            .saturating_add(sum.get(Counter::Request(transport, six)));
+            .saturating_add(sum.get(Counter::Request(transport, AddressFamily::V4)))
+            .saturating_add(sum.get(Counter::Request(transport, AddressFamily::V6)));
     }
     requests
 }
