@@ -36,8 +36,7 @@ pub(crate) fn status(alloc: Global, version: &Version, uptime: u64) -> Result<St
 
 /// A reply of lines for Prometheus, and the line that says that the command is done.
 pub(crate) fn stats(alloc: Global, lines: &[u8]) -> Result<String, AllocError> {
-    let lines = String::from_utf8_lossy(alloc, lines)?;
-    let mut text = String::from_str(alloc, lines.as_str())?;
+    let mut text = String::from_utf8_lossy(alloc, lines)?;
     text.push_str(DONE_LINE)?;
     Ok(text)
 }
