@@ -1,15 +1,18 @@
 //! What others see of the numbers of a server's threads.
 use crate::counters::Counters;
+use crate::secondary::SecondaryCounters;
 use crate::shared::SharedCounters;
 use std::alloc::{AllocError, Global};
+use std::net::SocketAddr;
 use std::sync::Wait;
 use std::sync::atomic::{AtomicBool, AtomicU64, Ordering};
 
-/// What others see of the numbers of a server's threads: of each that answers requests, by its place, and of the updates.
+/// What others see of the numbers of a server's threads: of each that answers requests, by its place, of the updates, and of each secondary.
 #[derive(Drop)]
 pub struct ServerCounters {
     threads: Vec<SharedCounters>,
     updates: SharedCounters,
+    secondaries: Vec<SecondaryCounters>,
     is_store_failing: AtomicBool,
     journal: AtomicU64,
 }
@@ -24,9 +27,25 @@ impl ServerCounters {
         Ok(ServerCounters {
             threads,
             updates: SharedCounters::new(),
+            secondaries: Vec::new(alloc),
             is_store_failing: AtomicBool::new(false),
             journal: AtomicU64::new(u64::MAX),
         })
+    }
+
+    /// One secondary more, at an address. The fault is a growth that was refused.
+    pub fn add_secondary(&mut self, address: SocketAddr) -> Result<(), AllocError> {
+        self.secondaries.push(SecondaryCounters::new(address))
+    }
+
+    /// What is counted of the secondaries.
+    pub fn secondaries(&self) -> &[SecondaryCounters] {
+        self.secondaries.as_slice()
+    }
+
+    /// What is counted of the secondary at an address; None where there is none.
+    pub fn secondary(&self, address: SocketAddr) -> Option<&SecondaryCounters> {
+        self.secondaries.iter().find(|each| each.address == address)
     }
 
     /// The numbers of the thread at a place; None where it answers no requests.

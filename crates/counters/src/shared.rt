@@ -1,6 +1,7 @@
 //! What others see of a thread's numbers.
 use crate::counter::Counter;
 use crate::counters::Counters;
+use crate::rcode::Rcode;
 use crate::transfer::Transfer;
 use crossbeam_utils::CachePadded;
 use std::sync::atomic::{AtomicU64, Ordering};
@@ -13,11 +14,12 @@ struct Shown {
     rounds: u64,
 }
 
-/// What is counted of replies of several messages, which others than the thread's handler make.
+/// What is counted of replies that others than the thread's handler make: the octets of their messages, transfers by what was sent, and updates by their RCODE.
 #[derive(Drop)]
 struct Streamed {
     octets: AtomicU64,
     transfers: [AtomicU64; 6],
+    updates: [AtomicU64; 13],
 }
 
 /// What others see of a thread's numbers: those that it showed last.
@@ -37,6 +39,21 @@ impl SharedCounters {
         let streamed = Streamed {
             octets: AtomicU64::new(0),
             transfers: [
+                AtomicU64::new(0),
+                AtomicU64::new(0),
+                AtomicU64::new(0),
+                AtomicU64::new(0),
+                AtomicU64::new(0),
+                AtomicU64::new(0),
+            ],
+            updates: [
+                AtomicU64::new(0),
+                AtomicU64::new(0),
+                AtomicU64::new(0),
+                AtomicU64::new(0),
+                AtomicU64::new(0),
+                AtomicU64::new(0),
+                AtomicU64::new(0),
                 AtomicU64::new(0),
                 AtomicU64::new(0),
                 AtomicU64::new(0),
@@ -73,6 +90,12 @@ impl SharedCounters {
         self.streamed.transfers[transfer.index()].fetch_add(1, Ordering::SeqCst);
     }
 
+    /// Counts a reply to an update, of an RCODE and so many octets.
+    pub fn stream_update(&self, rcode: Rcode, octets: u64) {
+        self.stream_octets(octets);
+        self.streamed.updates[rcode.index()].fetch_add(1, Ordering::SeqCst);
+    }
+
     /// Counts so many more of a counter, beside the numbers that a thread shows.
     pub fn add_many<R: Wait>(&self, rt: &R, counter: Counter, more: u64) {
         let mut last = self.last.lock(rt);
@@ -95,12 +118,27 @@ impl SharedCounters {
     pub fn add_to<R: Wait>(&self, rt: &R, sum: &mut Counters) -> u64 {
         let last = self.last.lock(rt);
         sum.add_all(&last.counters);
+        self.add_streamed(sum);
+        last.rounds
+    }
+
+    /// Adds what is counted of replies that others make.
+    fn add_streamed(&self, sum: &mut Counters) {
         let octets = self.streamed.octets.load(Ordering::SeqCst);
         sum.add_many(Counter::SentOctets, octets);
         for transfer in Transfer::ALL {
             let count = self.streamed.transfers[transfer.index()].load(Ordering::SeqCst);
             sum.add_many(Counter::Transfer(transfer), count);
         }
-        last.rounds
+        self.add_updates(sum);
+    }
+
+    /// Adds what is counted of replies to updates that others make.
+    fn add_updates(&self, sum: &mut Counters) {
+        for rcode in Rcode::ALL {
+            let count = self.streamed.updates[rcode.index()].load(Ordering::SeqCst);
+            sum.add_many(Counter::Reply(rcode), count);
+            sum.add_many(Counter::Update(rcode), count);
+        }
     }
 }

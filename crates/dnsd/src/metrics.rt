@@ -53,5 +53,9 @@ pub fn counters_for(
         return Ok(None);
     }
     let threads = serve.workers * (serve.listen.len() + 1);
-    Ok(Some(ServerCounters::new(alloc, threads)?))
+    let mut counters = ServerCounters::new(alloc, threads)?;
+    for secondary in serve.secondaries.iter() {
+        counters.add_secondary(secondary.address)?;
+    }
+    Ok(Some(counters))
 }

@@ -4,17 +4,17 @@ ghost use Rattle.transfer_core.specs.declared.kept.TheConstants.{KEPT};
 ghost use Rattle.dnsd_setup.specs.Starts.{CanStart};
 
 use crate::control::{NotBound, control_for, unbind_control};
-use crate::key_rights::{may_update, rights_for, shared_keys};
+use crate::key_rights::{rights_for, shared_keys};
 use crate::metrics::{counters_for, metrics_for};
 use crate::secondaries::{SecondarySockets, secondaries_for};
 use crate::thread_specs::{thread_specs_for, work_limits_of};
-use crate::warnings::{warn, warn_of_zone};
+use crate::warnings::{listening_for, warn, warn_of_zone};
 use command_line::{BAD_COMMAND, MAX_THREADS, Serve, StorePlan};
 use commands::{DONE, FAILED};
 use dnsd_setup::{
-    BoundSockets, Entries, FileReader, Listening, Log, LogLine, ServedZone, StartedZone,
-    WorkerSockets, ZoneStore, bind_sockets, descriptors, keys_for, read_text_for, start_entries,
-    start_store_for, tell_outside, text_for,
+    BoundSockets, CountedLog, CountedStore, Entries, FileReader, Log, LogLine, ServedZone,
+    StartedZone, WorkerSockets, ZoneStore, bind_sockets, descriptors, keys_for, read_text_for,
+    start_entries, start_store_for, tell_outside, text_for,
 };
 use key_file::KeyFile;
 use requests::Allowed;
@@ -25,7 +25,7 @@ use serve_workers::{
 use std::alloc::Global;
 use std::fs::{File, Files};
 use std::marker::Brand;
-use std::net::{Net, SocketAddr, TcpListener, TcpStream};
+use std::net::{Net, TcpListener, TcpStream};
 use std::random::RandomSource;
 use std::rt::Env;
 use std::sync::Wait;
@@ -307,25 +307,6 @@ fn serve_on_sockets<
     Ok(status)
 }
 
-/// What is logged once all workers have started.
-fn listening_for(
-    serve: &Serve<'_>,
-    begun: &StartedZone,
-    addresses: Vec<SocketAddr>,
-    kept: u32,
-) -> Listening {
-    let zone = begun.zone();
-    Listening {
-        addresses,
-        apex: zone.apex().copy(),
-        serial: zone.serial(),
-        records: begun.records(),
-        loses_updates: serve.store.is_none() && may_update(serve),
-        kept,
-        wanted: serve.udp_buffer,
-    }
-}
-
 /// The program's status once a zone is no longer served. The log gets the reason, if there is one.
 fn status_of<R: Wait>(rt: &R, served: Result<(), ServeFault>, log: &Log) -> u8 {
     match served {
@@ -462,6 +443,9 @@ fn serve_with_specs<
     serve_with_store(rt, alloc, most, begun, texts, specs, plan, log)
 }
 
+/// Where updates are stored and counted, with the log of a server.
+type StoreOf<'a, R, T> = CountedStore<'a, ZoneStore<'a, R, T, CountedLog<'a, Log>>, R>;
+
 /// Serves a zone with one thread for each of these specs. At most `most` updates wait, and the store's zone texts are written by `texts`.
 fn serve_with_store<
     R: Files<File = File> + AllocGlobal + Net + Threads + Wait + Clock + Copy + Sync + Drop,
@@ -480,6 +464,7 @@ fn serve_with_store<
     requires threads { vec_len specs ≤ 62 }
     requires kept { plan.keep ≤ KEPT }
 {
+    let log = &CountedLog::new(log, plan.counters);
     let Ok(zone) = begun.prepare(rt, alloc, plan.keep, texts, log) else {
         return Err(ServeFault::NoMemory);
     };
@@ -489,8 +474,9 @@ fn serve_with_store<
         store,
         lock,
     } = zone;
+    let store = CountedStore::new(store, plan.counters, rt);
     let config = UpdateConfig { most, store };
-    let served = serve_zone::<R, Brand, Log, ZoneStore<'_, R, T, Log>>(
+    let served = serve_zone::<R, Brand, CountedLog<'_, Log>, StoreOf<'_, R, T>>(
         rt, alloc, first, later, specs, plan, config, log,
     );
     mem::drop(lock);

@@ -1,9 +1,30 @@
-//! Warnings that are logged as a zone begins to be served.
+//! What is logged as a zone begins to be served: the addresses, and warnings.
+use crate::key_rights::may_update;
 use command_line::{Serve, is_routed};
-use dnsd_setup::{Log, LogLine, StartedZone};
+use dnsd_setup::{Listening, Log, LogLine, StartedZone};
 use notify::large_in;
+use std::net::SocketAddr;
 use std::sync::Wait;
 use zone_tree::ZoneRead;
+
+/// What is logged once all workers have started.
+pub fn listening_for(
+    serve: &Serve<'_>,
+    begun: &StartedZone,
+    addresses: Vec<SocketAddr>,
+    kept: u32,
+) -> Listening {
+    let zone = begun.zone();
+    Listening {
+        addresses,
+        apex: zone.apex().copy(),
+        serial: zone.serial(),
+        records: begun.records(),
+        loses_updates: serve.store.is_none() && may_update(serve),
+        kept,
+        wanted: serve.udp_buffer,
+    }
+}
 
 /// Logs warnings of what may differ from what the operator expects.
 pub fn warn<R: Wait>(rt: &R, serve: &Serve<'_>, log: &Log) {

@@ -9,6 +9,8 @@
 mod bound;
 mod change;
 mod control;
+mod counted_log;
+mod counted_store;
 mod deploy;
 pub mod descriptors;
 mod kept;
@@ -29,6 +31,8 @@ mod zone_file;
 pub use bound::{BoundSockets, WorkerSockets, bind_sockets};
 pub use change::run_change;
 pub use control::{bind_control_at, remove_control, run_control};
+pub use counted_log::CountedLog;
+pub use counted_store::CountedStore;
 pub use deploy::run_deploy;
 pub use kept::start_store_for;
 pub use keys::keys_for;

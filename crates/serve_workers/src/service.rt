@@ -99,10 +99,11 @@ fn context_for<'a, C: Clock, S: UpdateStore>(
     config: UpdateConfig<S>,
     specs: &[ThreadSpec<'_>],
     updates: &'a Updates,
-    keys: Option<SharedKeys<'a>>,
+    plan: Plan<'a>,
     clock: &'a C,
 ) -> Result<UpdateContext<'a, C, S>, ServeFault> {
-    match UpdateContext::new(alloc, config, specs, updates, keys, clock) {
+    let (keys, counters) = (plan.keys, plan.counters);
+    match UpdateContext::new(alloc, config, specs, updates, keys, counters, clock) {
         Ok(context) => Ok(context),
         Err(fault) => Err(fault_of(&fault)),
     }
@@ -162,7 +163,7 @@ fn serve_specs<
     requires kept { plan.keep ≤ KEPT }
 {
     let threads = specs.len();
-    let context = match context_for(alloc, config, &specs, updates, plan.keys, rt) {
+    let context = match context_for(alloc, config, &specs, updates, plan, rt) {
         Ok(context) => context,
         Err(fault) => return Err(fault),
     };

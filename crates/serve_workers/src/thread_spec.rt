@@ -80,7 +80,8 @@ impl Sockets {
             },
             Sockets::Secondaries(secondaries) => {
                 let keys = plan.keys.map(|shared| shared.keys);
-                match NotifyJob::new(alloc, worker, secondaries, rt, plan.shutdown, keys) {
+                let (shutdown, counters) = (plan.shutdown, plan.counters);
+                match NotifyJob::new(alloc, worker, secondaries, rt, shutdown, keys, counters) {
                     Ok(job) => Ok(SocketJob::Secondaries(job)),
                     Err(fault) => Err(io::Error::from(fault)),
                 }

@@ -7,8 +7,12 @@ use crate::progress::Shutdown;
 use crate::rates::{Rates, is_due};
 use crate::served_facts::{About, RecordCount, metrics_of};
 use crate::thread_rounds::ThreadRounds;
-use counters::{AddressFamily, Counter, Counters, Opcode, ServerCounters, Transport};
-use http_page::{Asked, Content, Health, Overview, Status, health_of, write_page, write_reply};
+use counters::{
+    AddressFamily, Counter, Counters, Opcode, SecondaryCounters, ServerCounters, Transport,
+};
+use http_page::{
+    Asked, Content, Health, Overview, Secondary, Status, health_of, write_page, write_reply,
+};
 use signed_replies::{SystemClock, UnixClock};
 use std::alloc::{AllocError, Global};
 use std::net::TcpListener;
@@ -361,6 +365,18 @@ impl<'a, C: Clock> MetricsJob<'a, C> {
         replied(self.alloc, Status::Ok, Content::Page, &body)
     }
 
+    /// The secondaries, and what is known of them.
+    fn secondaries(&self) -> Result<Vec<Secondary>, AllocError> {
+        let mut shown = Vec::new(self.alloc);
+        let Some(counters) = self.counters else {
+            return Ok(shown);
+        };
+        for counted in counters.secondaries() {
+            shown.push(shown_of(self.alloc, counted)?)?;
+        }
+        Ok(shown)
+    }
+
     /// What the page shows.
     fn overview(&self, version: &Version, records: u64, now: u64) -> Result<Overview, AllocError> {
         let alloc = self.alloc;
@@ -382,10 +398,22 @@ impl<'a, C: Clock> MetricsJob<'a, C> {
             uptime: now.saturating_sub(self.begun) / 1000,
             store: String::from_str(alloc, store)?,
             graphs,
-            secondaries: Vec::new(alloc),
+            secondaries: self.secondaries()?,
             lines: Vec::new(alloc),
         })
     }
+}
+
+/// A secondary, and what is known of it.
+fn shown_of(alloc: Global, counted: &SecondaryCounters) -> Result<Secondary, AllocError> {
+    let address = counted.address;
+    Ok(Secondary {
+        address: format!(in alloc; "{address}")?,
+        sent: counted.sent(),
+        answered: counted.answered(),
+        given_up: counted.given_up(),
+        serial: counted.serial(),
+    })
 }
 
 /// How many requests were counted.

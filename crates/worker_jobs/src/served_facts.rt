@@ -1,6 +1,9 @@
 //! What a server tells of itself, for Prometheus.
 use counters::{Counters, ServerCounters};
-use metric_families::{Facts, StoreFacts, counter_families, server_families, store_families};
+use metric_families::{
+    Facts, SecondaryFacts, StoreFacts, counter_families, secondary_families, server_families,
+    store_families,
+};
 use metrics_text::{Family, write_metrics};
 use std::alloc::{AllocError, Global};
 use zone_tree::{Version, Zone, ZoneRead};
@@ -85,7 +88,30 @@ fn put_counted(
         };
         store_families(alloc, families, facts)?;
     }
+    if !server.secondaries().is_empty() {
+        let secondaries = secondaries_of(alloc, server)?;
+        secondary_families(alloc, families, secondaries.as_slice())?;
+    }
     Ok(())
+}
+
+/// What is known of the secondaries.
+fn secondaries_of(
+    alloc: Global,
+    server: &ServerCounters,
+) -> Result<Vec<SecondaryFacts>, AllocError> {
+    let mut facts = Vec::new(alloc);
+    for each in server.secondaries() {
+        let address = each.address;
+        facts.push(SecondaryFacts {
+            address: format!(in alloc; "{address}")?,
+            sent: each.sent(),
+            answered: each.answered(),
+            given_up: each.given_up(),
+            serial: each.serial(),
+        })?;
+    }
+    Ok(facts)
 }
 
 /// How many records a zone has.
