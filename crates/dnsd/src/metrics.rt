@@ -3,10 +3,11 @@ use crate::control::NotBound;
 use command_line::{Serve, VERSION};
 use counters::ServerCounters;
 use dnsd_setup::bind_metrics;
-use serve_workers::{About, MetricsPlan};
+use serve_workers::{About, MetricsPlan, UdpDrops};
 use std::alloc::{AllocError, Global};
+use std::fs::{File, Files};
 use std::io;
-use std::net::Net;
+use std::net::{Net, SocketAddr};
 use std::rt::Env;
 
 /// What the server is.
@@ -25,8 +26,36 @@ pub fn beside_of(serve: &Serve<'_>) -> usize {
     notifying + controlling + telling
 }
 
+/// The files in which the system lists UDP sockets (Linux, proc(5)).
+const UDP_SOCKETS: [&str; 2] = ["/proc/net/udp", "/proc/net/udp6"];
+
+/// What tells how many datagrams the system drops: the files that can be opened.
+fn drops_for<R: Files<File = File> + AllocGlobal>(rt: &R) -> io::Result<UdpDrops> {
+    let mut files = Vec::new(rt.alloc());
+    for path in UDP_SOCKETS {
+        if let Ok(file) = File::open(rt, path) {
+            files.push(file)?;
+        }
+    }
+    Ok(UdpDrops::new(rt.alloc(), files))
+}
+
+/// The plan for telling metrics, if there is one, of a server at these addresses. The fault is a growth that was refused.
+pub fn at_addresses(
+    metrics: Option<MetricsPlan>,
+    addresses: &[SocketAddr],
+) -> Result<Option<MetricsPlan>, AllocError> {
+    let Some(mut plan) = metrics else {
+        return Ok(None);
+    };
+    for address in addresses {
+        plan.drops.watch(*address)?;
+    }
+    Ok(Some(plan))
+}
+
 /// Binds the socket for metrics, if they are told: what a thread needs that tells them.
-pub fn metrics_for<R: Net + Env + Eprint + AllocGlobal>(
+pub fn metrics_for<R: Files<File = File> + Net + Env + Eprint + AllocGlobal>(
     rt: &R,
     serve: &Serve<'_>,
 ) -> io::Result<Result<Option<MetricsPlan>, NotBound>> {
@@ -36,6 +65,7 @@ pub fn metrics_for<R: Net + Env + Eprint + AllocGlobal>(
     match bind_metrics(rt, address) {
         Ok(Some(listener)) => Ok(Ok(Some(MetricsPlan {
             listener,
+            drops: drops_for(rt)?,
             beside: beside_of(serve),
             about: about_of(serve),
         }))),

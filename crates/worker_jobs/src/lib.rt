@@ -25,6 +25,7 @@ mod scratch;
 mod serve_fault;
 mod served_facts;
 mod thread_rounds;
+mod udp_drops;
 mod udp_job;
 mod wake_list;
 mod waking_poll;
@@ -44,6 +45,7 @@ pub use reload_slot::{FileChange, FileZone, ReloadOrder, ReloadResult, ReloadSlo
 pub use scratch::Scratch;
 pub use serve_fault::ServeFault;
 pub use served_facts::About;
+pub use udp_drops::UdpDrops;
 pub use udp_job::UdpJob;
 pub use wake_list::WakeList;
 pub use worker_socket::{WorkerSocket, is_sent};

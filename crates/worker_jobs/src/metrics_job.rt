@@ -5,8 +5,9 @@ ghost use Rattle.requests.specs.Served.{Grows};
 use crate::metrics_client::{MetricsClient, accept_client};
 use crate::progress::Shutdown;
 use crate::rates::{Rates, is_due};
-use crate::served_facts::{About, RecordCount, metrics_of};
+use crate::served_facts::{About, RecordCount, metrics_of, put_drops};
 use crate::thread_rounds::ThreadRounds;
+use crate::udp_drops::UdpDrops;
 use counters::{
     AddressFamily, Counter, Counters, Opcode, SecondaryCounters, ServerCounters, Transport,
 };
@@ -38,6 +39,8 @@ const ROUND: u64 = 1_000;
 pub struct MetricsPlan {
     /// The socket, which doesn't block.
     pub listener: TcpListener,
+    /// What the system dropped.
+    pub drops: UdpDrops,
     /// How many threads of the server answer no requests, with this one.
     pub beside: usize,
     /// What the server is.
@@ -48,6 +51,7 @@ impl Drop for MetricsPlan {
     fn drop(self) {
         let MetricsPlan {
             listener: _,
+            drops: _,
             beside: _,
             about: _,
         } = self;
@@ -322,8 +326,12 @@ impl<'a, C: Clock> MetricsJob<'a, C> {
             Some((server, sum)) => Some((*server, sum)),
             None => None,
         };
-        let about = self.plan.about;
-        let body = metrics_of(self.alloc, about, self.started, version, records, counted)?;
+        let (alloc, about) = (self.alloc, self.plan.about);
+        let mut body = metrics_of(alloc, about, self.started, version, records, counted)?;
+        let drops = self.plan.drops.read(alloc)?;
+        if let Some(drops) = &drops {
+            put_drops(alloc, &mut body, drops.as_slice())?;
+        }
         replied(self.alloc, Status::Ok, Content::Metrics, &body)
     }
 

@@ -1,8 +1,8 @@
 //! What a server tells of itself, for Prometheus.
 use counters::{Counters, ServerCounters};
 use metric_families::{
-    Facts, SecondaryFacts, StoreFacts, counter_families, secondary_families, server_families,
-    store_families,
+    Drops, Facts, SecondaryFacts, StoreFacts, counter_families, drop_families, secondary_families,
+    server_families, store_families,
 };
 use metrics_text::{Family, write_metrics};
 use std::alloc::{AllocError, Global};
@@ -93,6 +93,17 @@ fn put_counted(
         secondary_families(alloc, families, secondaries.as_slice())?;
     }
     Ok(())
+}
+
+/// Puts what the system dropped at the end of what is told.
+pub(crate) fn put_drops(
+    alloc: Global,
+    text: &mut Vec<u8>,
+    drops: &[Drops],
+) -> Result<(), AllocError> {
+    let mut families = Vec::new(alloc);
+    drop_families(alloc, &mut families, drops)?;
+    write_metrics(text, families.as_slice())
 }
 
 /// What is known of the secondaries.
