@@ -62,7 +62,13 @@ impl<'a, M: Messages, A: Handler<M> + Drop> CountingConnections<'a, M, A> {
     pub fn into_inner(self) -> A
         ensures { result ≡ self.entry.inner }
     {
-        let CountingConnections { inner, .. } = self;
+        let CountingConnections {
+            inner,
+            counts: _,
+            from: _,
+            tally: _,
+            messages: _,
+        } = self;
         inner
     }
 

@@ -35,7 +35,8 @@ impl ServerCounters {
 
     /// One secondary more, at an address. The fault is a growth that was refused.
     pub fn add_secondary(&mut self, address: SocketAddr) -> Result<(), AllocError> {
-        self.secondaries.push(SecondaryCounters::new(address))
+        self.secondaries.push(SecondaryCounters::new(address))?;
+        Ok(())
     }
 
     /// What is counted of the secondaries.

@@ -33,7 +33,8 @@ impl Rates {
         if self.rates.len() >= MOST {
             let _ = self.rates.remove(0);
         }
-        self.rates.push(u32::try_from(rate).unwrap_or(u32::MAX))
+        self.rates.push(u32::try_from(rate).unwrap_or(u32::MAX))?;
+        Ok(())
     }
 
     /// The rates as a graph.

@@ -29,7 +29,8 @@ impl ThreadRounds {
     fn note_one(&mut self, place: usize, shown: u64, now: u64) -> Result<(), AllocError> {
         if place >= self.rounds.len() {
             self.rounds.push(shown)?;
-            return self.since.push(now);
+            self.since.push(now)?;
+            return Ok(());
         }
         if self.rounds[place] != shown {
             self.rounds[place] = shown;

@@ -31,7 +31,8 @@ impl UdpDrops {
 
     /// The server has sockets at this address, too. The fault is a growth that was refused.
     pub fn watch(&mut self, address: SocketAddr) -> Result<(), AllocError> {
-        self.addresses.push(address)
+        self.addresses.push(address)?;
+        Ok(())
     }
 
     /// How many datagrams to each address were dropped, by all of its sockets. None where the system doesn't list them. The fault is a request for memory that was refused.
