@@ -7,6 +7,10 @@ mod counted;
 #[cfg(test)]
 mod exposition;
 #[cfg(test)]
+mod families;
+#[cfg(test)]
 mod pages;
 #[cfg(test)]
 mod times;
+#[cfg(test)]
+mod transfers;
