@@ -138,7 +138,6 @@ dnsd_transfers_total{type=\"IXFR\",result=\"current\"} 1" ask +notcp example.tes
 
 counts 'an update that changes the zone' "$udp
 dnsd_requests_total{opcode=\"UPDATE\"} 1
-dnsd_query_types_total{type=\"SOA\"} 1
 $noerror
 dnsd_updates_total{rcode=\"NOERROR\"} 1
 dnsd_updates_changed_total 1
@@ -148,14 +147,12 @@ dnsd_zone_versions_total{zone=\"example.test.\"} 1" update 'update add new.examp
 
 counts 'an update whose prerequisite fails' "$udp
 dnsd_requests_total{opcode=\"UPDATE\"} 1
-dnsd_query_types_total{type=\"SOA\"} 1
 dnsd_responses_total{rcode=\"YXDOMAIN\"} 1
 dnsd_updates_total{rcode=\"YXDOMAIN\"} 1
 dnsd_updates_refused_total{reason=\"prerequisite\"} 1" update $'prereq nxdomain web.example.test\nupdate add web.example.test 300 A 192.0.2.78'
 
 counts 'an update by TCP' "$tcp
 dnsd_requests_total{opcode=\"UPDATE\"} 1
-dnsd_query_types_total{type=\"SOA\"} 1
 $noerror
 dnsd_updates_total{rcode=\"NOERROR\"} 1
 dnsd_updates_changed_total 1

@@ -13,15 +13,19 @@ use Rattle.message_counts.specs.Places.{opcode_of, is_truncated, question_type, 
 abbrev pub one : Counter → Counter × ℕ
 one counter = (counter, 1)
 
+-- the type that a query asks for (OPCODE 0), where it can be read; other requests ask for none
+abbrev pub queried_type : List ℕ → Option ℕ
+queried_type octets = if opcode_of octets == 0 then question_type octets else None
+
 -- a question of a type that can be read
 abbrev pub question_counts : Option ℕ → List (Counter × ℕ)
 question_counts None = []
 question_counts (Some number) = one (Question (qtype_of number)) ∷ []
 
--- a request: its transport and its peer's address, its OPCODE, its octets, its question's type
+-- a request: its transport and its peer's address, its OPCODE, its octets, and of a query its question's type
 abbrev pub request_counts : Transport → AddressFamily → List ℕ → List (Counter × ℕ)
 request_counts transport family octets =
-    one (Request transport family) ∷ (one (Opcode (opcode_named (opcode_of octets))) ∷ ((ReceivedOctets, length octets) ∷ question_counts (question_type octets)))
+    one (Request transport family) ∷ (one (Opcode (opcode_named (opcode_of octets))) ∷ ((ReceivedOctets, length octets) ∷ question_counts (queried_type octets)))
 
 -- a reply to an update (RFC 2136, 3.8), by its RCODE
 abbrev pub update_counts : List ℕ → List (Counter × ℕ)

@@ -1,13 +1,18 @@
 //! What a request and a reply add to the counters.
 ghost use Rattle.std.specs.Prelude.{◌≡◌, length};
 ghost use Rattle.counters.specs.Counters.{with_counts};
-ghost use Rattle.message_counts.specs.Places.{question_type};
-ghost use Rattle.message_counts.specs.Counts.{request_counts, reply_counts, more_counts, question_counts, update_counts, truncated_counts};
+ghost use Rattle.message_counts.specs.Counts.{queried_type, request_counts, reply_counts, more_counts, question_counts, update_counts, truncated_counts};
 
 use crate::places::{is_truncated, opcode_of, question_type, rcode_of};
 use counters::{AddressFamily, Counter, Counters, Opcode, Qtype, Rcode, Transport};
 
-/// Counts a request: by its transport and its peer's address, by its OPCODE and by its question's type, and its octets. A request
+/// The OPCODE of queries (RFC 1035, 4.1.1).
+const QUERY: u8 = 0;
+
+/// The OPCODE of updates (RFC 2136, 2.2).
+pub(crate) const UPDATE: u8 = 5;
+
+/// Counts a request: by its transport and its peer's address, by its OPCODE, a query by its question's type too, and its octets. A query
 /// without a question that can be read counts by no type. Returns that type.
 pub fn count_request(
     counters: &mut Counters,
@@ -16,16 +21,26 @@ pub fn count_request(
     request: &[u8],
 ) -> Option<u16>
     ensures counts { counters.new ≡ with_counts (request_counts transport family request.now) counters.old }
-    ensures asked { result ≡ question_type request.now }
+    ensures asked { result ≡ queried_type request.now }
 {
     counters.add(Counter::Request(transport, family));
     counters.add(Counter::Opcode(Opcode::of(opcode_of(request))));
     counters.add_many(Counter::ReceivedOctets, request.len() as u64);
-    let qtype = question_type(request);
+    let qtype = queried_type(request);
     if let Some(number) = qtype {
         counters.add(Counter::Question(Qtype::of(number)));
     }
     qtype
+}
+
+/// The type that a query asks for, where it can be read; None of other requests (RFC 1035, 4.1.1).
+fn queried_type(request: &[u8]) -> Option<u16>
+    ensures { result ≡ queried_type request.now }
+{
+    if opcode_of(request) != QUERY {
+        return None;
+    }
+    question_type(request)
 }
 
 /// Counts a reply of one message, or the first message of one: by its RCODE, of an update also as that, whether it is truncated, and its
@@ -39,7 +54,7 @@ pub fn count_reply(counters: &mut Counters, reply: &[u8])
     if is_truncated(reply) {
         counters.add(Counter::Truncated);
     }
-    if opcode_of(reply) == 5 {
+    if opcode_of(reply) == UPDATE {
         counters.add(Counter::Update(rcode));
     }
 }

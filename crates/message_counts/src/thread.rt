@@ -1,6 +1,6 @@
 //! What a thread counts of the requests that it takes and of the replies that it sends.
 
-use crate::count::{count_more, count_reply, count_request};
+use crate::count::{UPDATE, count_more, count_reply, count_request};
 use crate::places::opcode_of;
 use crate::transfers::{asks_transfer, transfer_of};
 use counters::{AddressFamily, Counter, Counters, Rcode, SharedCounters, Transport};
@@ -8,9 +8,6 @@ use std::net::SocketAddr;
 
 /// After how many requests a thread that doesn't wait shows its numbers (own).
 const SHOWN_EACH: u32 = 64;
-
-/// The OPCODE of updates (RFC 2136, 2.2).
-const UPDATE: u8 = 5;
 
 /// Counts the datagrams of a thread.
 pub trait DatagramCounts {
