@@ -74,6 +74,7 @@ fn second_type(reply: &[u8]) -> Option<u16>
 }
 
 /// The position after a record's owner that begins at one: labels and the length 0, or a pointer (RFC 1035, 4.1.4); None where there is none.
+#[tactic(auto, using(crate::proofs::OwnerLemmas::owner_ends_here, crate::proofs::OwnerLemmas::ends_by_pointer, crate::proofs::OwnerLemmas::no_owner_label, crate::proofs::OwnerLemmas::no_owner_end))]
 fn owner_end(octets: &[u8], start: usize) -> Option<usize>
     ensures end { result ≡ owner_end start 0 (drop start octets.now) }
     ensures within { IfSome result (λ end. end ≤ length octets.now + 1) }
