@@ -10,7 +10,7 @@ use std::net::SocketAddr;
 const SHOWN_EACH: u32 = 64;
 
 /// Counts the datagrams of a thread.
-pub trait DatagramCounts {
+pub trait DatagramCounts: Drop {
     /// Counts a request from an address.
     fn received(&mut self, request: &[u8], from: SocketAddr);
 
