@@ -3,12 +3,14 @@ use crate::control::NotBound;
 use command_line::{Serve, VERSION};
 use counters::ServerCounters;
 use dnsd_setup::bind_metrics;
+use log_lines::RecentLines;
 use serve_workers::{About, MetricsPlan, UdpDrops};
 use std::alloc::{AllocError, Global};
 use std::fs::{File, Files};
 use std::io;
 use std::net::{Net, SocketAddr};
 use std::rt::Env;
+use std::sync::Arc;
 
 /// What the server is.
 pub fn about_of(serve: &Serve<'_>) -> About {
@@ -25,6 +27,9 @@ pub fn beside_of(serve: &Serve<'_>) -> usize {
     let telling = if serve.metrics.is_some() { 1 } else { 0 };
     notifying + controlling + telling
 }
+
+/// How many lines of the log the page shows (own).
+const LINES: usize = 20;
 
 /// The files in which the system lists UDP sockets (Linux, proc(5)).
 const UDP_SOCKETS: [&str; 2] = ["/proc/net/udp", "/proc/net/udp6"];
@@ -66,11 +71,22 @@ pub fn metrics_for<R: Files<File = File> + Net + Env + Eprint + AllocGlobal>(
         Ok(Some(listener)) => Ok(Ok(Some(MetricsPlan {
             listener,
             drops: drops_for(rt)?,
+            lines: Arc::new(rt.alloc(), RecentLines::new(rt.alloc(), LINES))?,
             beside: beside_of(serve),
             about: about_of(serve),
         }))),
         Ok(None) => Ok(Err(NotBound)),
         Err(fault) => Err(fault),
+    }
+}
+
+/// Where the log's thread keeps the last lines, if metrics are told. The fault is a request for memory that was refused.
+pub fn recent_of(
+    metrics: Option<&MetricsPlan>,
+) -> Result<Option<Arc<RecentLines, Global>>, AllocError> {
+    match metrics {
+        Some(plan) => Ok(Some(Arc::try_clone(&plan.lines)?)),
+        None => Ok(None),
     }
 }
 

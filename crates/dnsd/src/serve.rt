@@ -5,7 +5,7 @@ ghost use Rattle.dnsd_setup.specs.Starts.{CanStart};
 
 use crate::control::{NotBound, control_for, unbind_control};
 use crate::key_rights::{rights_for, shared_keys};
-use crate::metrics::{at_addresses, counters_for, metrics_for};
+use crate::metrics::{at_addresses, counters_for, metrics_for, recent_of};
 use crate::secondaries::{SecondarySockets, secondaries_for};
 use crate::thread_specs::{thread_specs_for, work_limits_of};
 use crate::warnings::{listening_for, warn, warn_of_zone};
@@ -230,7 +230,11 @@ fn bind<
         Ok(Err(NotBound)) => return Ok(None),
         Err(fault) => return Err(fault),
     };
-    let entries = match start_entries(rt) {
+    let recent = match recent_of(metrics.as_ref()) {
+        Ok(recent) => recent,
+        Err(fault) => return Err(io::Error::from(fault)),
+    };
+    let entries = match start_entries(rt, recent) {
         Ok(entries) => entries,
         Err(fault) => return Err(io::Error::from(fault)),
     };

@@ -12,12 +12,13 @@ use counters::{
     AddressFamily, Counter, Counters, Opcode, SecondaryCounters, ServerCounters, Transport,
 };
 use http_page::{
-    Asked, Content, Health, Overview, Secondary, Status, health_of, write_page, write_reply,
+    Asked, Content, Health, Line, Overview, Secondary, Status, health_of, write_page, write_reply,
 };
+use log_lines::RecentLines;
 use signed_replies::{SystemClock, UnixClock};
 use std::alloc::{AllocError, Global};
 use std::net::TcpListener;
-use std::sync::Wait;
+use std::sync::{Arc, Wait};
 use std::thread;
 use std::time::{Clock, Duration};
 use zone_server::{JobEnd, LocalUpdates};
@@ -41,6 +42,8 @@ pub struct MetricsPlan {
     pub listener: TcpListener,
     /// What the system dropped.
     pub drops: UdpDrops,
+    /// The last lines of the log.
+    pub lines: Arc<RecentLines, Global>,
     /// How many threads of the server answer no requests, with this one.
     pub beside: usize,
     /// What the server is.
@@ -52,6 +55,7 @@ impl Drop for MetricsPlan {
         let MetricsPlan {
             listener: _,
             drops: _,
+            lines: _,
             beside: _,
             about: _,
         } = self;
@@ -307,7 +311,7 @@ impl<'a, C: Clock> MetricsJob<'a, C> {
         if asked == Asked::Metrics {
             self.metrics(rt, version.get(), now)
         } else {
-            self.page(version.get(), now)
+            self.page(rt, version.get(), now)
         }
     }
 
@@ -363,11 +367,12 @@ impl<'a, C: Clock> MetricsJob<'a, C> {
     }
 
     /// The page for a person.
-    fn page(&mut self, version: &Version, now: u64) -> Result<Vec<u8>, AllocError>
+    fn page<R: Wait>(&mut self, rt: &R, version: &Version, now: u64) -> Result<Vec<u8>, AllocError>
         ensures number { self.new.number ≡ self.old.number }
     {
         let records = self.records.of(version);
-        let overview = self.overview(version, records, now)?;
+        let lines = lines_of(self.alloc, self.plan.lines.copy(rt)?)?;
+        let overview = self.overview(version, records, lines, now)?;
         let mut body = Vec::new(self.alloc);
         write_page(&mut body, &overview)?;
         replied(self.alloc, Status::Ok, Content::Page, &body)
@@ -386,7 +391,13 @@ impl<'a, C: Clock> MetricsJob<'a, C> {
     }
 
     /// What the page shows.
-    fn overview(&self, version: &Version, records: u64, now: u64) -> Result<Overview, AllocError> {
+    fn overview(
+        &self,
+        version: &Version,
+        records: u64,
+        lines: Vec<Line>,
+        now: u64,
+    ) -> Result<Overview, AllocError> {
         let alloc = self.alloc;
         let zone = version.zone();
         let mut graphs = Vec::new(alloc);
@@ -407,9 +418,18 @@ impl<'a, C: Clock> MetricsJob<'a, C> {
             store: String::from_str(alloc, store)?,
             graphs,
             secondaries: self.secondaries()?,
-            lines: Vec::new(alloc),
+            lines,
         })
     }
+}
+
+/// Lines of the log for the page.
+fn lines_of(alloc: Global, texts: Vec<String>) -> Result<Vec<Line>, AllocError> {
+    let mut lines = Vec::new(alloc);
+    for text in texts {
+        lines.push(Line { text })?;
+    }
+    Ok(lines)
 }
 
 /// A secondary, and what is known of it.
