@@ -1,12 +1,12 @@
 -- Names in full, label by label.
-use Rattle.std.proofs.Common.{◌≡◌, ◌≢◌, refl, sym, ap, ◌∙◌, ℕ, zero, suc, ◌+◌, ◌<◌, ◌≤◌, arith, List, [], ◌∷◌, length, drop, Option, Some, None, nat_lt, if◌then◌else◌}
+use Rattle.std.proofs.Common.{◌≡◌, ◌==◌, ◌≢◌, refl, sym, ap, ◌∙◌, ℕ, zero, suc, ◌+◌, ◌<◌, ◌≤◌, arith, List, [], ◌∷◌, length, drop, Option, Some, None, nat_lt, if◌then◌else◌}
 use Rattle.std.proofs.Math.ListN.{get_or}
 use Rattle.std.proofs.lemmas.Bool.{eq-eqb, ne_eqb, le-ltb, lt-ltb}
 use Rattle.std.proofs.lemmas.List.{drop_all, drop_more, drop-drop}
 use Rattle.message_counts.specs.Places.{name_end}
 
 -- what a length at a position says of where the name ends
-by_length : ℕ → ℕ → List ℕ → Option ℕ
+abbrev by_length : ℕ → ℕ → List ℕ → Option ℕ
 by_length at len rest = if len == 0 then Some (at + 1) else if nat_lt 63 len then None else name_end (at + 1) len rest
 
 -- the octets of a label are passed over

@@ -1,12 +1,12 @@
 -- Owners of records, label by label.
-use Rattle.std.proofs.Common.{◌≡◌, ◌≢◌, refl, sym, ap, ◌∙◌, ℕ, zero, suc, ◌+◌, ◌<◌, ◌≤◌, arith, List, [], ◌∷◌, length, drop, Bool, false, Option, Some, None, nat_lt, if◌then◌else◌}
+use Rattle.std.proofs.Common.{◌≡◌, ◌==◌, ◌≢◌, refl, sym, ap, ◌∙◌, ℕ, zero, suc, ◌+◌, ◌<◌, ◌≤◌, arith, List, [], ◌∷◌, length, drop, Bool, false, Option, Some, None, nat_lt, if◌then◌else◌}
 use Rattle.std.proofs.Math.ListN.{get_or}
 use Rattle.std.proofs.lemmas.Bool.{eq-eqb, ne_eqb, le-ltb, lt-ltb}
 use Rattle.std.proofs.lemmas.List.{drop_all, drop_more, drop-drop}
 use Rattle.message_counts.specs.Transfers.{owner_end}
 
 -- where an owner ends, by what is known of the length at a position: that it is 0, above 191, above 63
-by_owner : Bool → Bool → Bool → ℕ → ℕ → List ℕ → Option ℕ
+abbrev by_owner : Bool → Bool → Bool → ℕ → ℕ → List ℕ → Option ℕ
 by_owner none pointer long at len rest = if none then Some (at + 1) else if pointer then Some (at + 2) else if long then None else owner_end (at + 1) len rest
 
 -- the octets of a label are passed over

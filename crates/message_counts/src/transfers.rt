@@ -1,5 +1,5 @@
 //! What a request for a transfer got, by the octets of its reply (RFC 1995, 4; RFC 5936, 2.2).
-ghost use Rattle.std.specs.Prelude.{◌≡◌, ◌≤◌, ◌^◌, ◌<◌, drop, length, IfSome};
+ghost use Rattle.std.specs.Prelude.{◌≡◌, ◌≤◌, ◌+◌, drop, length, IfSome};
 ghost use Rattle.message_counts.specs.Transfers.{asks_transfer, incremental_of, owner_end, second_type, transfer_of};
 
 use crate::places::{ANCOUNT, HEADER, QDCOUNT, first_name_end, number_at, rcode_of};

@@ -4,7 +4,7 @@ use Rattle.message_counts.proofs.places.name_end.Given as goal
 
 -- the name ends where the rest of its labels does
 abbrev pub invariant-loop-len : goal.invariant-loop-len
-invariant-loop-len l = name_end l.at 0 (drop l.at l.octets.now) ≡ name_end l.start 0 (drop l.start l.octets.now)
+invariant-loop-len l = name_end l.at 0 (drop l.at l.octets) ≡ name_end l.start 0 (drop l.start l.octets)
 
 abbrev pub decreases-loop-len : goal.decreases-loop-len
-decreases-loop-len l = length l.octets.now - l.at
+decreases-loop-len l = length l.octets - l.at
