@@ -25,7 +25,7 @@ impl RecentLines {
     /// A line was written. One for which there is no memory is left out.
     pub fn put<R: Wait>(&self, rt: &R, line: String) {
         let mut lines = self.lines.lock(rt);
-        let _ = keep(&mut lines, self.most, line);
+        let _ = keep(&mut *lines, self.most, line);
     }
 
     /// The lines, the oldest first. The fault is a request for memory that was refused.
