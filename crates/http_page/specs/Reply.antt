@@ -31,9 +31,17 @@ last_fields = codes "\r\nCache-Control: no-store\r\nConnection: close\r\n\r\n"
 abbrev pub status_text : Status → List ℕ
 status_text status = codes "HTTP/1.1 " ++ (status_line status ++ codes "\r\n")
 
+-- the field of a body's type (RFC 9110, 8.3)
+abbrev pub type_text : Content → List ℕ
+type_text content = codes "Content-Type: " ++ content_type content
+
+-- the fields of a body's length and after it (RFC 9110, 8.6)
+abbrev pub length_text : ℕ → List ℕ
+length_text len = length_field ++ (decimal len ++ last_fields)
+
 -- the fields before a body of so many octets (RFC 9112, 5)
 abbrev pub fields_text : Content → ℕ → List ℕ
-fields_text content len = codes "Content-Type: " ++ (content_type content ++ (length_field ++ (decimal len ++ last_fields)))
+fields_text content len = type_text content ++ length_text len
 
 -- the fields and the body (RFC 9112, 6)
 abbrev pub body_text : Content → List ℕ → List ℕ

@@ -1,6 +1,6 @@
 //! The octets of a reply.
 ghost use Rattle.std.specs.Prelude.{◌≡◌, ◌++◌, OnOk};
-ghost use Rattle.http_page.specs.Reply.{status_line, content_type, reply_octets, status_text, fields_text, body_text, length_field, last_fields};
+ghost use Rattle.http_page.specs.Reply.{status_line, content_type, reply_octets, status_text, fields_text, type_text, length_text, body_text, length_field, last_fields};
 
 use metrics_text::{put_decimal, put_text};
 use std::alloc::AllocError;
@@ -66,8 +66,22 @@ fn put_body(text: &mut Vec<u8>, content: Content, body: &[u8]) -> Result<(), All
 fn put_fields(text: &mut Vec<u8>, content: Content, len: u64) -> Result<(), AllocError>
     ensures { OnOk result (text.new.items ≡ text.old.items ++ fields_text content len) }
 {
+    put_type(text, content)?;
+    put_length(text, len)
+}
+
+/// Puts the field of a body's type at the end of a text.
+fn put_type(text: &mut Vec<u8>, content: Content) -> Result<(), AllocError>
+    ensures { OnOk result (text.new.items ≡ text.old.items ++ type_text content) }
+{
     put_text(text, "Content-Type: ")?;
-    put_text(text, type_of(content))?;
+    put_text(text, type_of(content))
+}
+
+/// Puts the field of a body's length, and those after it, at the end of a text.
+fn put_length(text: &mut Vec<u8>, len: u64) -> Result<(), AllocError>
+    ensures { OnOk result (text.new.items ≡ text.old.items ++ length_text len) }
+{
     put_text(text, length_field())?;
     put_decimal(text, len)?;
     put_text(text, last_fields())
