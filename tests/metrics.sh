@@ -170,6 +170,15 @@ dnsd_transfers_total{type=\"IXFR\",result=\"incremental\"} 1
 dnsd_connections_opened_total 1
 dnsd_connections_ended_total{reason=\"done\"} 1" ask example.test IXFR=1
 
+# Puts octets in hexadecimal into a datagram.
+datagram() {
+    printf "$(sed 's/../\\x&/g' <<<"$1")" >"/dev/udp/127.0.0.1/$port"
+}
+
+counts 'a reply, which gets none' "$udp
+$query
+dnsd_dropped_total 1" datagram 000180000000000000000000
+
 # What is there by HTTP.
 told() { curl -sS -o "$work/body" -w '%{http_code} %{content_type}' "$@"; }
 check 'metrics' '200 text/plain; version=0.0.4' "$(told "http://$web/metrics")"
@@ -190,6 +199,22 @@ exec 9>&-
 curl -fsS "http://$web/metrics" | grep -v dnsd_udp_drops_total | sed 's/ .*//' | sort >"$work/web"
 "$program" control "$work/control" stats | sed 's/ .*//' | sort >"$work/stats"
 check 'stats prints the same families' '' "$(diff "$work/web" "$work/stats")"
+
+unserve
+serve "$zone" --metrics "$web" --allow ''
+counts 'a transfer that is not permitted' "$tcp
+$query
+dnsd_query_types_total{type=\"AXFR\"} 1
+dnsd_responses_total{rcode=\"REFUSED\"} 1
+dnsd_transfers_total{type=\"AXFR\",result=\"refused\"} 1
+dnsd_connections_opened_total 1
+dnsd_connections_ended_total{reason=\"done\"} 1" ask example.test AXFR
+
+counts 'an update that is not permitted' "$udp
+dnsd_requests_total{opcode=\"UPDATE\"} 1
+dnsd_responses_total{rcode=\"REFUSED\"} 1
+dnsd_updates_total{rcode=\"REFUSED\"} 1
+dnsd_updates_refused_total{reason=\"permission\"} 1" update 'update add new.example.test 300 A 192.0.2.77'
 
 unserve
 serve "$zone"
