@@ -38,7 +38,3 @@ truncated_counts octets = if is_truncated octets then one Truncated ∷ [] else 
 -- a reply: its RCODE, its octets, whether it is truncated, and of an update the same RCODE
 abbrev pub reply_counts : List ℕ → List (Counter × ℕ)
 reply_counts octets = one (Reply (rcode_named (rcode_of octets))) ∷ ((SentOctets, length octets) ∷ (truncated_counts octets ++ update_counts octets))
-
--- a further message of a reply: its octets
-abbrev pub more_counts : List ℕ → List (Counter × ℕ)
-more_counts octets = (SentOctets, length octets) ∷ []

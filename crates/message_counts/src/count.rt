@@ -1,7 +1,7 @@
 //! What a request and a reply add to the counters.
 ghost use Rattle.std.specs.Prelude.{◌≡◌, length};
 ghost use Rattle.counters.specs.Counters.{with_counts};
-ghost use Rattle.message_counts.specs.Counts.{queried_type, request_counts, reply_counts, more_counts, question_counts, update_counts, truncated_counts};
+ghost use Rattle.message_counts.specs.Counts.{queried_type, request_counts, reply_counts, question_counts, update_counts, truncated_counts};
 
 use crate::places::{is_truncated, opcode_of, question_type, rcode_of};
 use counters::{AddressFamily, Counter, Counters, Opcode, Qtype, Rcode, Transport};
@@ -57,11 +57,4 @@ pub fn count_reply(counters: &mut Counters, reply: &[u8])
     if opcode_of(reply) == UPDATE {
         counters.add(Counter::Update(rcode));
     }
-}
-
-/// Counts a further message of a reply: its octets alone.
-pub fn count_more(counters: &mut Counters, message: &[u8])
-    ensures { counters.new ≡ with_counts (more_counts message.now) counters.old }
-{
-    counters.add_many(Counter::SentOctets, message.len() as u64);
 }

@@ -10,7 +10,7 @@ mod places;
 mod thread;
 mod transfers;
 
-pub use count::{count_more, count_reply, count_request};
+pub use count::{count_reply, count_request};
 pub use places::{is_truncated, opcode_of, question_type, rcode_of};
 pub use thread::{DatagramCounts, NoCounts, ThreadCounts};
 pub use transfers::{asks_transfer, transfer_of};

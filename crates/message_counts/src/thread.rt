@@ -1,6 +1,6 @@
 //! What a thread counts of the requests that it takes and of the replies that it sends.
 
-use crate::count::{UPDATE, count_more, count_reply, count_request};
+use crate::count::{UPDATE, count_reply, count_request};
 use crate::places::opcode_of;
 use crate::transfers::{asks_transfer, transfer_of};
 use counters::{AddressFamily, Counter, Counters, Rcode, SharedCounters, Transport};
@@ -96,11 +96,6 @@ impl<'a> ThreadCounts<'a> {
                 self.counters.add(Counter::Transfer(transfer));
             }
         }
-    }
-
-    /// Counts a further message of a reply.
-    pub fn give_more(&mut self, message: &[u8]) {
-        count_more(&mut self.counters, message);
     }
 
     /// Counts a reply of several messages, which are counted as they are made: its code is NOERROR (RFC 5936, 2.2). The type by which the request that was counted last asks for a
