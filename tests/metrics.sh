@@ -184,7 +184,7 @@ told() { curl -sS -o "$work/body" -w '%{http_code} %{content_type}' "$@"; }
 check 'metrics' '200 text/plain; version=0.0.4' "$(told "http://$web/metrics")"
 check 'health' '200 text/plain; charset=utf-8 ok' "$(told "http://$web/healthz") $(cat "$work/body")"
 check 'the page' '200 text/html; charset=utf-8' "$(told "http://$web/")"
-check 'the page names the zone' 1 "$(grep -c 'example.test' "$work/body")"
+check 'the page names the zone' 1 "$(grep -c '<h1>example.test' "$work/body")"
 check 'the page shows the log' yes "$(grep -q 'update from' "$work/body" && echo yes)"
 check 'another path' '404 text/plain; charset=utf-8' "$(told "http://$web/other")"
 check 'another method' '405 text/plain; charset=utf-8' "$(told -X POST "http://$web/metrics")"
