@@ -31,9 +31,13 @@ last_fields = codes "\r\nCache-Control: no-store\r\nConnection: close\r\n\r\n"
 abbrev pub status_text : Status → List ℕ
 status_text status = codes "HTTP/1.1 " ++ (status_line status ++ codes "\r\n")
 
+-- what stands before the type of a body
+unfoldable pub type_field : List ℕ
+type_field = codes "Content-Type: "
+
 -- the field of a body's type (RFC 9110, 8.3)
 abbrev pub type_text : Content → List ℕ
-type_text content = codes "Content-Type: " ++ content_type content
+type_text content = type_field ++ content_type content
 
 -- the fields of a body's length and after it (RFC 9110, 8.6)
 abbrev pub length_text : ℕ → List ℕ

@@ -1,6 +1,6 @@
 //! The octets of a reply.
 ghost use Rattle.std.specs.Prelude.{◌≡◌, ◌++◌, OnOk};
-ghost use Rattle.http_page.specs.Reply.{status_line, content_type, reply_octets, status_text, fields_text, type_text, length_text, body_text, length_field, last_fields};
+ghost use Rattle.http_page.specs.Reply.{status_line, content_type, reply_octets, status_text, fields_text, type_text, length_text, body_text, type_field, length_field, last_fields};
 
 use metrics_text::{put_decimal, put_text};
 use std::alloc::AllocError;
@@ -74,7 +74,7 @@ fn put_fields(text: &mut Vec<u8>, content: Content, len: u64) -> Result<(), Allo
 fn put_type(text: &mut Vec<u8>, content: Content) -> Result<(), AllocError>
     ensures { OnOk result (text.new.items ≡ text.old.items ++ type_text content) }
 {
-    put_text(text, "Content-Type: ")?;
+    put_text(text, type_field())?;
     put_text(text, type_of(content))
 }
 
@@ -109,6 +109,14 @@ fn type_of(content: Content) -> &'static str
         Content::Text => "text/plain; charset=utf-8",
         Content::Page => "text/html; charset=utf-8",
     }
+}
+
+/// What stands before the type of a body.
+#[tactic(auto, unfolding(crate::specs::Reply::type_field))]
+fn type_field() -> &'static str
+    ensures { result.now ≡ type_field }
+{
+    "Content-Type: "
 }
 
 /// What stands before the length of a body.
