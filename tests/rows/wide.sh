@@ -89,7 +89,8 @@ x. CAA 0 issue "a" "b" => M6 BadData
 x. TLSA 3 1 1 012 => M6 BadData
 x. OPENPGPKEY AQIDBA => M6 BadData
 x. DS 1 RSA 1 00 => M3 Number
-x. HTTPS 1 . port=53 alpn=h2 => M6 BadData
+x. HTTPS 1 . port=53 alpn=h2 port=53 => M6 BadData
+x. HTTPS 1 . mandatory=port,alpn,port alpn=h2 port=53 => M6 BadData
 x. LOC 52 22 23.000 N 4 53 32.000 E 0m => M5 UnknownType
 x. AAA 192.0.2.1 => M5 UnknownType
 $INCLUDE other => M1 Directive
@@ -161,6 +162,8 @@ n EUI64 00-00-5e-ef-10-00-00-2a
 o KX 10 a
 o AFSDB 1 a
 o SPF "v=spf1 -all" "more"
+p SVCB 16 foo.example.org. alpn=h2,h3-19 mandatory=ipv4hint,alpn ipv4hint=192.0.2.1
+q SVCB 16 foo.example.org. ipv4hint=192.0.2.1 mandatory=alpn,ipv4hint alpn=h2,h3-19
 =>
 x. 5 IN SOA a.x. b.x. 1 2 3 4 5
 x. 5 IN NS a.x.
@@ -182,6 +185,8 @@ n.x. 5 IN TYPE109 \# 8 00005eef1000002a
 o.x. 5 IN TYPE18 \# 7 00010161017800
 o.x. 5 IN TYPE36 \# 7 000a0161017800
 o.x. 5 IN TYPE99 \# 17 0b763d73706631202d616c6c046d6f7265
+p.x. 5 IN TYPE64 \# 48 001003666f6f076578616d706c65036f7267000000000400010004000100090268320568332d313900040004c0000201
+q.x. 5 IN TYPE64 \# 48 001003666f6f076578616d706c65036f7267000000000400010004000100090268320568332d313900040004c0000201
 end
 
 # no TTL is in force: an SOA's MINIMUM is its TTL, and that of the records after it; of another type there is none

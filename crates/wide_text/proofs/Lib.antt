@@ -1,5 +1,6 @@
 pub mod EuiLemmas
 pub mod FieldLemmas
+pub mod KeyedLemmas
 pub mod ParamLemmas
 pub mod PlainFront
 pub mod PlainLemmas

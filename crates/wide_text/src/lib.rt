@@ -9,6 +9,7 @@ mod encoded;
 mod fields;
 mod forms;
 mod front;
+mod keyed;
 mod laws;
 mod mnemonics;
 mod params;
