@@ -11,6 +11,7 @@ mod forms;
 mod front;
 mod keyed;
 mod laws;
+mod location;
 mod mnemonics;
 mod params;
 mod signing;
