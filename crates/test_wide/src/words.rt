@@ -7,7 +7,7 @@ use wide_text::{read_wide_data, read_wide_front, seconds, write_wide_data, write
 use zone_lexing::{Entries, Word};
 
 /// What stands after an owner, and the data (RFC 4034, 5.4; RFC 8659, 4.1; RFC 7553, 4; RFC 4701, 3.6, and other examples).
-const RECORDS: [(&str, &str); 29] = [
+const RECORDS: [(&str, &str); 31] = [
     ("HINFO \"INTEL-386\" UNIX", "09494e54454c2d33383604554e4958"),
     (
         "CAA 0 issue \"letsencrypt.org\"",
@@ -81,6 +81,14 @@ const RECORDS: [(&str, &str); 29] = [
         "HTTPS 1 . no-default-alpn= ech=AQID ipv6hint=\"2001:db8::1,2001:db8::53:1\"",
         "000100 00020000 00050003010203 0006002020010db800000000000000000000000120010db8000000000000000000530001",
     ),
+    (
+        "LOC 42 21 54 N 71 06 18 W -24m 30m",
+        "0033161389172dd070be15f000988d20",
+    ),
+    (
+        "LOC 90 S 180 E 42849672.95 90000000.00m 0.01m 0.5",
+        "009910516cb02700a69fb200ffffffff",
+    ),
     ("EUI48 00-00-5e-00-53-2a", "00005e00532a"),
     ("EUI64 00-00-5E-ef-10-00-00-2A", "00005eef1000002a"),
     ("DNSKEY 256 3 5 AQPS", "0100030501 03d2"),
@@ -94,7 +102,7 @@ const RECORDS: [(&str, &str); 29] = [
 ];
 
 /// What is refused, and how.
-const REFUSED: [(&str, Cause); 26] = [
+const REFUSED: [(&str, Cause); 28] = [
     ("CAA 256 issue \"a\"", Cause::Number),
     ("CAA 0 \"issue\" \"a\"", Cause::BadData),
     ("CAA 0 is-sue \"a\"", Cause::BadData),
@@ -115,6 +123,8 @@ const REFUSED: [(&str, Cause); 26] = [
     ("HTTPS 1 . other=1", Cause::BadData),
     ("HTTPS 1 . ipv4hint=192.0.2", Cause::BadData),
     ("HTTPS 1 . alpn \"h2\"", Cause::BadData),
+    ("LOC 91 N 0 E 0m", Cause::Number),
+    ("LOC 1 N 0 E", Cause::BadData),
     ("EUI48 00-00-5e-00-53", Cause::BadData),
     ("EUI48 00-00-5e-00-53-2a-00", Cause::BadData),
     ("EUI48 00:00:5e:00:53:2a", Cause::BadData),

@@ -1,4 +1,4 @@
-use Rattle.std.proofs.Common.{rules, arith}
+use Rattle.std.proofs.Common.{rules}
 use Rattle.wide_text.proofs.KeyedLemmas.{found, less_on, passed, twice}
 use Rattle.wide_text.proofs.keyed.place_of.Goals as goal
 
