@@ -121,11 +121,12 @@ def secondary_at(room, port, primary):
 
 def main():
     room = tempfile.mkdtemp()
+    os.mkdir(f"{room}/store")
     zone, control = f"{room}/zone", f"{room}/control"
     write_zone(zone, 1, 0)
     port = free_port()
     begun = time.monotonic()
-    server = subprocess.Popen([program, "serve", "--listen", "127.0.0.1:0", "--workers", "2", "--store", f"{room}/store", "--control", control, "--allow-update", "127.0.0.1",
+    server = subprocess.Popen([program, "serve", "--listen", "127.0.0.1:0", "--workers", "2", "--store", f"{room}/store", "--control", control,
                                "--notify", f"127.0.0.1:{port}", zone], stderr=subprocess.PIPE, text=True)
     logged = []
     for line in server.stderr:
@@ -133,6 +134,8 @@ def main():
         if found := re.search(r"listening on 127\.0\.0\.1:(\d+)", line):
             served = int(found[1])
             break
+    else:
+        sys.exit("".join(logged))
     print(f"started in {time.monotonic() - begun:.1f} s, memory now and at most {memory_of(server)} MiB", flush=True)
     lines = {}
 
