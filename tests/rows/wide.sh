@@ -36,7 +36,7 @@ takes <zones/example.test.zone
 prints "${input%$'\n'}" check --wide -
 prints "${input%$'\n'}" check --wide --origin example.test. -
 
-# a byte order mark in front of the text is passed over, of a directive, a comment and a record; one after it isn't
+# a byte order mark at the start of the text is passed over, of a directive, a comment and a record; one after it isn't
 two=$'x. 60 IN SOA a.x. b.x. 1 2 3 4 5\nx. 60 IN NS a.x.'
 for line in '$TTL 60' '; a zone'; do
     input=$'\xef\xbb\xbf'$line$'\n@ 60 SOA a b 1 2 3 4 5\n@ 60 NS a\n'

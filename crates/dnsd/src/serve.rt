@@ -6,13 +6,13 @@ ghost use Rattle.dnsd_setup.specs.Starts.{CanStart};
 use crate::control::{NotBound, control_for, control_of, unbind_control};
 use crate::key_rights::{may_update, rights_for, shared_keys};
 use crate::secondaries::{SecondarySockets, secondaries_for};
-use crate::thread_specs::{thread_specs_for, work_limits_of};
+use crate::thread_specs::{places_for, thread_specs_for, work_limits_of};
 use command_line::{BAD_COMMAND, MAX_THREADS, Serve, StorePlan, is_routed};
 use commands::{DONE, FAILED};
 use dnsd_setup::{
     BoundSockets, Entries, FileReader, Listening, Log, LogLine, ServedZone, StartedZone,
-    WorkerSockets, ZoneStore, ZoneText, bind_sockets, descriptors, keys_for, read_text_for,
-    start_entries, start_store_for, tell_outside, text_for,
+    WorkerSockets, ZoneStore, ZoneText, bind_sockets, keys_for, read_text_for, start_entries,
+    start_store_for, tell_outside, text_for,
 };
 use key_file::KeyFile;
 use notify::large_in;
@@ -343,25 +343,6 @@ fn status_of<R: Wait>(rt: &R, served: Result<(), ServeFault>, log: &Log) -> u8 {
             log.add(rt, LogLine::Fault(fault));
             FAILED
         }
-    }
-}
-
-/// The maximum number of open connections per worker: as many as requested, or else, with a line in the log, as many as there are descriptors for.
-fn places_for<R: Files + AllocGlobal + Wait>(rt: &R, serve: &Serve<'_>, log: &Log) -> usize {
-    let (workers, places, addresses) = (serve.workers, serve.places, serve.listen.len());
-    let wanted = descriptors::wanted(workers, places, addresses);
-    match descriptors::limit(rt) {
-        Some(limit) if limit < wanted => {
-            let places = descriptors::places_within(limit, workers, places, addresses);
-            let line = LogLine::FewDescriptors {
-                limit,
-                wanted,
-                places,
-            };
-            log.add(rt, line);
-            places
-        }
-        _ => places,
     }
 }
 

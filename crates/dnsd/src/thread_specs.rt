@@ -1,9 +1,12 @@
-//! What each thread of a server serves.
+//! What each thread of a server serves, and how many connections.
 use crate::secondaries::SecondarySockets;
+use command_line::Serve;
 use dns_name::Name;
-use dnsd_setup::WorkerSockets;
+use dnsd_setup::{Log, LogLine, WorkerSockets, descriptors};
 use serve_workers::{ControlPlan, Sockets, ThreadSpec, WorkLimit};
 use std::alloc::Global;
+use std::fs::Files;
+use std::sync::Wait;
 
 /// What each thread serves: each worker's listeners, each of its UDP sockets, and, in one more thread each, the secondaries of the zone with this apex and
 /// the operator. None if there is not enough memory.
@@ -88,4 +91,23 @@ pub fn work_limits_of(alloc: Global, workers: usize, most: u64) -> Option<Vec<Wo
         }
     }
     Some(progresses)
+}
+
+/// The maximum number of open connections per worker: as many as requested, or else, with a line in the log, as many as there are descriptors for.
+pub fn places_for<R: Files + AllocGlobal + Wait>(rt: &R, serve: &Serve<'_>, log: &Log) -> usize {
+    let (workers, places, addresses) = (serve.workers, serve.places, serve.listen.len());
+    let wanted = descriptors::wanted(workers, places, addresses);
+    match descriptors::limit(rt) {
+        Some(limit) if limit < wanted => {
+            let places = descriptors::places_within(limit, workers, places, addresses);
+            let line = LogLine::FewDescriptors {
+                limit,
+                wanted,
+                places,
+            };
+            log.add(rt, line);
+            places
+        }
+        _ => places,
+    }
 }
