@@ -226,6 +226,23 @@ def tries_commands(room):
     server.reader.join()
     report(any("reload: serial 5 to 6, 4 records deleted, 4 added" in line for line in server.lines), "the log has each reload")
     report(any("reload failed: line 8: M6" in line for line in server.lines), "and why one failed")
+    tries_restart(room)
+
+
+def tries_restart(room):
+    """After a restart the versions' numbers go on, and the updates since the start are counted anew; without a store there is none."""
+    server = Server(room, "--store", f"{room}/store", "--take", "store")
+    status, said, _ = server.ask("status")
+    report(status == 0 and "serial 9\nrecords 7\nversion 3\nupdates 0\nstore ok\n" in said, f"the status after a restart: {said!r}")
+    written(f"{room}/zone", zone_text(12, 6, 3))
+    report(server.ask("reload") == (0, "serial 9 to 12, 4 records deleted, 4 added\n", ""), "and a reload")
+    status, said, _ = server.ask("status")
+    report(status == 0 and "serial 12\nrecords 7\nversion 4\nupdates 1\nstore ok\n" in said, f"is one update since: {said!r}")
+    server.stop()
+    server = Server(room)
+    status, said, _ = server.ask("status")
+    report(status == 0 and "serial 12\nrecords 7\nversion 0\nupdates 0\nstore none\nuptime " in said, f"without a store: {said!r}")
+    server.stop()
 
 
 def tries_stranger(room, server):
