@@ -89,8 +89,21 @@ x. CAA 0 issue "a" "b" => M6 BadData
 x. TLSA 3 1 1 012 => M6 BadData
 x. OPENPGPKEY AQIDBA => M6 BadData
 x. DS 1 RSA 1 00 => M3 Number
-x. HTTPS 1 . port=53 alpn=h2 => M6 BadData
-x. LOC 52 22 23.000 N 4 53 32.000 E 0m => M5 UnknownType
+x. HTTPS 1 . port=53 alpn=h2 port=53 => M6 BadData
+x. HTTPS 1 . mandatory=port,alpn,port alpn=h2 port=53 => M6 BadData
+x. LOC 91 N 0 E 0m => M3 Number
+x. LOC 90 0 0.001 N 0 E 0m => M3 Number
+x. LOC 1 60 N 0 E 0m => M3 Number
+x. LOC 1 0 60 N 0 E 0m => M3 Number
+x. LOC 1 0 0.0005 N 0 E 0m => M3 Number
+x. LOC 1 N 0 E 42849672.96m => M3 Number
+x. LOC 1 N 0 E -100000.01m => M3 Number
+x. LOC 1 N 0 E 0m 90000000.01m => M3 Number
+x. LOC 1 N 0 E 0km => M3 Number
+x. LOC 1 N 0 E => M6 BadData
+x. LOC 1 N 0 E 0m 1m 1m 1m 1m => M6 BadData
+x. LOC 1 N 0 E "0m" => M6 BadData
+x. APL 1:192.0.2.0/24 => M5 UnknownType
 x. AAA 192.0.2.1 => M5 UnknownType
 $INCLUDE other => M1 Directive
 $GENERATE 1-3 a$ A 192.0.2.$ => M1 Directive
@@ -161,6 +174,8 @@ n EUI64 00-00-5e-ef-10-00-00-2a
 o KX 10 a
 o AFSDB 1 a
 o SPF "v=spf1 -all" "more"
+p SVCB 16 foo.example.org. alpn=h2,h3-19 mandatory=ipv4hint,alpn ipv4hint=192.0.2.1
+q SVCB 16 foo.example.org. ipv4hint=192.0.2.1 mandatory=alpn,ipv4hint alpn=h2,h3-19
 =>
 x. 5 IN SOA a.x. b.x. 1 2 3 4 5
 x. 5 IN NS a.x.
@@ -182,6 +197,36 @@ n.x. 5 IN TYPE109 \# 8 00005eef1000002a
 o.x. 5 IN TYPE18 \# 7 00010161017800
 o.x. 5 IN TYPE36 \# 7 000a0161017800
 o.x. 5 IN TYPE99 \# 17 0b763d73706631202d616c6c046d6f7265
+p.x. 5 IN TYPE64 \# 48 001003666f6f076578616d706c65036f7267000000000400010004000100090268320568332d313900040004c0000201
+q.x. 5 IN TYPE64 \# 48 001003666f6f076578616d706c65036f7267000000000400010004000100090268320568332d313900040004c0000201
+end
+
+# places (RFC 1876, 3: its examples first), by hand, and as named-rrchecker has them but for letters in lower case: a size keeps its first digit
+wide '' --origin x. <<'end'
+$TTL 5
+@ SOA a b 1 2 3 4 5
+@ NS a
+a LOC 42 21 54 N 71 06 18 W -24m 30m
+b LOC 42 21 43.952 N 71 5 6.344 W -24m 1m 200m
+c LOC 52 14 05 N 00 08 50 E 10m
+d LOC 32 7 19 S 116 2 25 E 10m
+e LOC 42 21 28.764 N 71 00 51.617 W -44m 2000m
+f LOC 52 22 23.000 N 4 53 32.000 E -2.00m 0.00m 10000m 10m
+g LOC 90 S 180 E 42849672.95 90000000.00m 0.01m 0.5
+h LOC 1 N 2 E 15m 15m 99.99m
+i loc 0 0 0.5 s 0 w -100000m
+=>
+x. 5 IN SOA a.x. b.x. 1 2 3 4 5
+x. 5 IN NS a.x.
+a.x. 5 IN TYPE29 \# 16 0033161389172dd070be15f000988d20
+b.x. 5 IN TYPE29 \# 16 001224138917069070bf2dd800988d20
+c.x. 5 IN TYPE29 \# 16 001216138b3556c88008165000989a68
+d.x. 5 IN TYPE29 \# 16 00121613791b7d2898e6486800989a68
+e.x. 5 IN TYPE29 \# 16 002516138916cb3c70c310df00988550
+f.x. 5 IN TYPE29 \# 16 000016138b3cf018810cbce0009895b8
+g.x. 5 IN TYPE29 \# 16 009910516cb02700a69fb200ffffffff
+h.x. 5 IN TYPE29 \# 16 001393138036ee80806ddd0000989c5c
+i.x. 5 IN TYPE29 \# 16 001216137ffffe0c8000000000000000
 end
 
 # no TTL is in force: an SOA's MINIMUM is its TTL, and that of the records after it; of another type there is none

@@ -7,7 +7,7 @@ use wide_text::{read_wide_data, read_wide_front, seconds, write_wide_data, write
 use zone_lexing::{Entries, Word};
 
 /// What stands after an owner, and the data (RFC 4034, 5.4; RFC 8659, 4.1; RFC 7553, 4; RFC 4701, 3.6, and other examples).
-const RECORDS: [(&str, &str); 27] = [
+const RECORDS: [(&str, &str); 31] = [
     ("HINFO \"INTEL-386\" UNIX", "09494e54454c2d33383604554e4958"),
     (
         "CAA 0 issue \"letsencrypt.org\"",
@@ -62,6 +62,14 @@ const RECORDS: [(&str, &str); 27] = [
         "001003666f6f076578616d706c65036f7267000000000400010004000100090268320568332d313900040004c0000201",
     ),
     (
+        "SVCB 16 foo.example.org. alpn=h2,h3-19 mandatory=ipv4hint,alpn ipv4hint=192.0.2.1",
+        "001003666f6f076578616d706c65036f7267000000000400010004000100090268320568332d313900040004c0000201",
+    ),
+    (
+        "HTTPS 1 . port=53 ech=AQID alpn=h2",
+        "000100 00010003026832 000300020035 00050003010203",
+    ),
+    (
         "SVCB 1 foo.example.com. port=53",
         "000103666f6f076578616d706c6503636f6d00000300020035",
     ),
@@ -72,6 +80,14 @@ const RECORDS: [(&str, &str); 27] = [
     (
         "HTTPS 1 . no-default-alpn= ech=AQID ipv6hint=\"2001:db8::1,2001:db8::53:1\"",
         "000100 00020000 00050003010203 0006002020010db800000000000000000000000120010db8000000000000000000530001",
+    ),
+    (
+        "LOC 42 21 54 N 71 06 18 W -24m 30m",
+        "0033161389172dd070be15f000988d20",
+    ),
+    (
+        "LOC 90 S 180 E 42849672.95 90000000.00m 0.01m 0.5",
+        "009910516cb02700a69fb200ffffffff",
     ),
     ("EUI48 00-00-5e-00-53-2a", "00005e00532a"),
     ("EUI64 00-00-5E-ef-10-00-00-2A", "00005eef1000002a"),
@@ -86,7 +102,7 @@ const RECORDS: [(&str, &str); 27] = [
 ];
 
 /// What is refused, and how.
-const REFUSED: [(&str, Cause); 25] = [
+const REFUSED: [(&str, Cause); 28] = [
     ("CAA 256 issue \"a\"", Cause::Number),
     ("CAA 0 \"issue\" \"a\"", Cause::BadData),
     ("CAA 0 is-sue \"a\"", Cause::BadData),
@@ -101,11 +117,14 @@ const REFUSED: [(&str, Cause); 25] = [
     ("HTTPS 1 . alpn", Cause::BadData),
     ("HTTPS 1 . port=65536", Cause::Number),
     ("HTTPS 1 . port=53 port=54", Cause::BadData),
-    ("HTTPS 1 . port=53 alpn=h2", Cause::BadData),
+    ("HTTPS 1 . port=53 alpn=h2 port=53", Cause::BadData),
+    ("HTTPS 1 . mandatory=port,alpn,port", Cause::BadData),
     ("HTTPS 1 . mandatory=mandatory", Cause::BadData),
     ("HTTPS 1 . other=1", Cause::BadData),
     ("HTTPS 1 . ipv4hint=192.0.2", Cause::BadData),
     ("HTTPS 1 . alpn \"h2\"", Cause::BadData),
+    ("LOC 91 N 0 E 0m", Cause::Number),
+    ("LOC 1 N 0 E", Cause::BadData),
     ("EUI48 00-00-5e-00-53", Cause::BadData),
     ("EUI48 00-00-5e-00-53-2a-00", Cause::BadData),
     ("EUI48 00:00:5e:00:53:2a", Cause::BadData),

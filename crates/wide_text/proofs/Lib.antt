@@ -1,5 +1,7 @@
 pub mod EuiLemmas
 pub mod FieldLemmas
+pub mod KeyedLemmas
+pub mod LocationLemmas
 pub mod ParamLemmas
 pub mod PlainFront
 pub mod PlainLemmas

@@ -126,7 +126,7 @@ soa_reads origin words octets e =
 all_read_plain : AllReadPlain forms
 unfolding forms octets_of_words plain_form
 all_read_plain =
-    (soa_reads, (λ o w s e. cc, (λ o w s e. cc, (λ o w s e. cc, (λ o w s e. cc, (λ o w s e. cc, (λ o w s e. cc, (λ o w s e. cc, (λ o w s e. cc, (λ o w s e. cc, (λ o w s e. cc, (λ o w s e. cc, (λ o w s e. cc, (λ o w s e. cc, (λ o w s e. cc, (λ o w s e. cc, (λ o w s e. cc, (λ o w s e. cc, (λ o w s e. cc, (λ o w s e. cc, (λ o w s e. cc, (λ o w s e. cc, (λ o w s e. cc, (λ o w s e. cc, tt))))))))))))))))))))))))
+    (soa_reads, (λ o w s e. cc, (λ o w s e. cc, (λ o w s e. cc, (λ o w s e. cc, (λ o w s e. cc, (λ o w s e. cc, (λ o w s e. cc, (λ o w s e. cc, (λ o w s e. cc, (λ o w s e. cc, (λ o w s e. cc, (λ o w s e. cc, (λ o w s e. cc, (λ o w s e. cc, (λ o w s e. cc, (λ o w s e. cc, (λ o w s e. cc, (λ o w s e. cc, (λ o w s e. cc, (λ o w s e. cc, (λ o w s e. cc, (λ o w s e. cc, (λ o w s e. cc, (λ o w s e. cc, tt)))))))))))))))))))))))))
 
 -- what a line reads for a type
 abbrev ReadsFor : ℕ → Form → Type 0

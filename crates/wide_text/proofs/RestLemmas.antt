@@ -103,6 +103,7 @@ rest_back rest.Strings octets h = strings_rest octets h
 rest_back rest.Hex octets h = hex_by octets (length octets == 0) h
 rest_back rest.Base64 octets h = base64_by octets (length octets == 0) h
 rest_back rest.Params octets h = tt
+rest_back rest.Location octets h = tt
 
 -- the words of fields and of what stands after them
 abbrev pub AreBack : List Field → Rest → List ℕ → Option (List Written) → Type 0

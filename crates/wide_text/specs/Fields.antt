@@ -10,6 +10,7 @@ use Rattle.record_text.specs.Strings.{string_of}
 use Rattle.record_text.specs.declared.cause.Cause.{Cause}
 use Rattle.record_text.specs.declared.cause.Cause.TheVariants.{BadData}
 use Rattle.wide_text.specs.Encoded.{hex_of, base64_words, eui_of}
+use Rattle.wide_text.specs.Location.{location_of}
 use Rattle.wide_text.specs.Mnemonics.{named_of, algorithms, certificate_types}
 use Rattle.wide_text.specs.Params.{params_of}
 use Rattle.wide_text.specs.Texts.{text_of, tag_of}
@@ -47,6 +48,7 @@ rest_of rest.Strings words = strings_in words
 rest_of rest.Hex words = hex_of words
 rest_of rest.Base64 words = base64_words words
 rest_of rest.Params words = params_of words
+rest_of rest.Location words = location_of words
 
 -- the octets that words stand for: one word a field, and then the rest; the first fault from left to right is the one that is read
 abbrev pub fields_of : Name → List Field → Rest → List Written → Result (List ℕ) Cause

@@ -31,6 +31,8 @@ forms =
     -- RFC 1183, 2.2 and 1
     ∷ record { word = codes "RP"; rtype = 17; fields = field.Name ∷ field.Name ∷ []; rest = rest.Nothing }
     ∷ record { word = codes "AFSDB"; rtype = 18; fields = field.Short ∷ field.Name ∷ []; rest = rest.Nothing }
+    -- RFC 1876, 2 and 3
+    ∷ record { word = codes "LOC"; rtype = 29; fields = []; rest = rest.Location }
     -- RFC 3403, 4.1
     ∷ record { word = codes "NAPTR"; rtype = 35; fields = field.Short ∷ field.Short ∷ field.String ∷ field.String ∷ field.String ∷ field.Name ∷ []; rest = rest.Nothing }
     -- RFC 2230, 3.1

@@ -4,6 +4,7 @@ pub mod Fields
 pub mod Forms
 pub mod Front
 pub mod Laws
+pub mod Location
 pub mod Mnemonics
 pub mod Params
 pub mod Private

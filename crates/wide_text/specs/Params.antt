@@ -1,5 +1,5 @@
--- Parameters of services as words, in ascending order of their keys (RFC 9460, 2.1, 7, 8 and A.1).
-use Rattle.std.specs.Prelude.{ℕ, ◌+◌, Bool, true, false, ◌&&◌, ◌==◌, List, [], ◌∷◌, ◌++◌, length, take, drop, codes, nat_lt, nat_le, if◌then◌else◌, Some, None, Result, Ok, Err, ok_or}
+-- Parameters of services as words, and their octets in ascending order of their keys (RFC 9460, 2.1, 2.2, 7, 8 and A.1).
+use Rattle.std.specs.Prelude.{ℕ, ◌+◌, Bool, true, false, ◌&&◌, ◌==◌, List, [], ◌∷◌, ◌++◌, length, take, drop, flat_map, codes, nat_lt, nat_le, if◌then◌else◌, Some, None, Result, Ok, Err, ok_or}
 use Rattle.std.specs.Int.{from_be_bytes, to_be_bytes, w16}
 use Rattle.record_text.specs.Address.{address_of, address6_of}
 use Rattle.record_text.specs.Mnemonics.{is_word}
@@ -11,6 +11,7 @@ use Rattle.record_text.specs.declared.cause.Cause.TheVariants.{BadData}
 use Rattle.record_text.specs.declared.cause.Cause.TheVariants as cause
 use Rattle.wide_text.specs.Encoded.{base64_in}
 use Rattle.wide_text.specs.Mnemonics.{Mnemonic, number_named}
+use Rattle.wide_text.specs.declared.keyed.Keyed as declared
 use Rattle.wide_text.specs.declared.params.Item.{Item}
 use Rattle.wide_text.specs.declared.params.Item.TheVariants as item
 use Rattle.zone_lexing.specs.Word.{Written}
@@ -62,15 +63,37 @@ list_from kind false own (c ∷ text) =
 abbrev pub list_of : Item → List ℕ → Result (List ℕ) Cause
 list_of kind octets = list_from kind false [] octets
 
--- whether octets are numbers of two octets that rise, from this one on
-abbrev pub are_rising : ℕ → List ℕ → Bool
-are_rising least [] = true
-are_rising least (a ∷ []) = false
-are_rising least (a ∷ b ∷ octets) = nat_le least (from_be_bytes w16 (a ∷ b ∷ [])) && are_rising (from_be_bytes w16 (a ∷ b ∷ []) + 1) octets
+-- octets, and the key that they are ordered by
+pub record Keyed : Type 0 where
+  pub key : ℕ
+  pub octets : List ℕ
 
--- the keys of `mandatory`, which itself isn't among them (RFC 9460, 8)
+-- octets and their key as contracts see them
+abbrev pub keyed_seen : declared.Keyed → Keyed
+keyed_seen own = record { key = own.key; octets = own.octets.items }
+
+-- octets put among others, in ascending order of keys; a key stands once (RFC 9460, 2.1 and 2.2)
+abbrev pub put_among : Keyed → List Keyed → Result (List Keyed) Cause
+put_among own [] = Ok (own ∷ [])
+put_among own (other ∷ others) =
+    if nat_lt own.key other.key then Ok (own ∷ other ∷ others)
+    else if own.key == other.key then Err BadData
+    else on_ok (λ more. other ∷ more) (put_among own others)
+
+-- the octets, one after the other
+abbrev pub all_octets : List Keyed → List ℕ
+all_octets all = flat_map (λ own. own.octets) all
+
+-- the keys that octets are, of two octets each, put among others
+abbrev pub keys_among : List Keyed → List ℕ → Result (List Keyed) Cause
+keys_among others [] = Ok others
+keys_among others (a ∷ []) = Err BadData
+keys_among others (a ∷ b ∷ octets) =
+    and_then (put_among (record { key = from_be_bytes w16 (a ∷ b ∷ []); octets = a ∷ b ∷ [] }) others) (λ next. keys_among next octets)
+
+-- the keys of `mandatory`, in ascending order, among which it doesn't stand itself, as if it did already (RFC 9460, 8)
 abbrev pub mandatory_of : List ℕ → Result (List ℕ) Cause
-mandatory_of octets = and_then (list_of item.Key octets) (λ keys. if are_rising 1 keys then Ok keys else Err BadData)
+mandatory_of octets = and_then (list_of item.Key octets) (λ keys. on_ok all_octets (keys_among (record { key = 0; octets = [] } ∷ []) keys))
 
 abbrev pub nothing_in : List ℕ → Result (List ℕ) Cause
 nothing_in octets = if length octets == 0 then Ok [] else Err BadData
@@ -95,14 +118,14 @@ value_of key text = and_then (ok_or (unescaped text) BadData) (shaped key)
 abbrev pub framed : ℕ → List ℕ → Result (List ℕ) Cause
 framed key value = if nat_le (length value) 65535 then Ok ((to_be_bytes w16 key ++ to_be_bytes w16 (length value)) ++ value) else Err BadData
 
--- the octets of a parameter of a key, which is this one or one after it
-abbrev pub param_of : ℕ → ℕ → List ℕ → Result (List ℕ) Cause
-param_of least key value = if nat_le least key then and_then (value_of key value) (framed key) else Err BadData
+-- the parameter that the texts of a key and of its value spell, after its key and its length
+abbrev pub param_of : List ℕ → List ℕ → Result Keyed Cause
+param_of key value =
+    and_then (key_of key) (λ number. on_ok (λ octets. record { key = number; octets = octets }) (and_then (value_of number value) (framed number)))
 
--- a parameter, by the texts of its key and its value, and those after it
-abbrev pub param_before : ℕ → List ℕ → List ℕ → (ℕ → Result (List ℕ) Cause) → Result (List ℕ) Cause
-param_before least key value more =
-    and_then (key_of key) (λ number. and_then (param_of least number value) (λ front. on_ok (λ rest. front ++ rest) (more (number + 1))))
+-- and put among others
+abbrev pub param_among : List Keyed → List ℕ → List ℕ → Result (List Keyed) Cause
+param_among others key value = and_then (param_of key value) (λ own. put_among own others)
 
 -- the texts of a parameter's key and of its value, and how many words it has
 pub record Part : Type 0 where
@@ -123,14 +146,15 @@ first_in (Unclosed ∷ words) = Err cause.Unclosed
 abbrev pub after : List ℕ → Result (List ℕ) Cause → Result (List ℕ) Cause
 after own rest = on_ok (λ more. own ++ more) rest
 
--- the octets of parameters, whose keys rise from this one on (own). A value may stand in quotes
-abbrev pub params_from : ℕ → List Written → Result (List ℕ) Cause
-params_from least [] = Ok []
-params_from least (Plain text ∷ Quoted value ∷ words) =
-    if key_len text + 1 == length text then param_before least (take (key_len text) text) value (λ next. params_from next words) else Err BadData
-params_from least (Plain text ∷ words) = param_before least (take (key_len text) text) (drop (key_len text + 1) text) (λ next. params_from next words)
-params_from least (Quoted value ∷ words) = Err BadData
-params_from least (Unclosed ∷ words) = Err cause.Unclosed
+-- the parameters that words spell, in whatever order, put among others (RFC 9460, 2.1). A value may stand in quotes
+abbrev pub params_among : List Keyed → List Written → Result (List Keyed) Cause
+params_among others [] = Ok others
+params_among others (Plain text ∷ Quoted value ∷ words) =
+    if key_len text + 1 == length text then and_then (param_among others (take (key_len text) text) value) (λ next. params_among next words) else Err BadData
+params_among others (Plain text ∷ words) = and_then (param_among others (take (key_len text) text) (drop (key_len text + 1) text)) (λ next. params_among next words)
+params_among others (Quoted value ∷ words) = Err BadData
+params_among others (Unclosed ∷ words) = Err cause.Unclosed
 
+-- the octets of the parameters that words spell, in ascending order of their keys (RFC 9460, 2.2)
 abbrev pub params_of : List Written → Result (List ℕ) Cause
-params_of words = params_from 0 words
+params_of words = on_ok all_octets (params_among [] words)

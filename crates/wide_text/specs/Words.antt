@@ -74,12 +74,13 @@ word_at field.CertType octets = short_at octets
 word_at field.Eui48 octets = eui_at 6 octets
 word_at field.Eui64 octets = eui_at 8 octets
 
--- the words of the octets after the fields; none where they are no such words, and of parameters
+-- the words of the octets after the fields; none where they are no such words, and of parameters and places
 unfoldable pub rest_words : Rest → List ℕ → Option (List Written)
 rest_words rest.Nothing octets = if length octets == 0 then Some [] else None
 rest_words rest.Strings octets = elim (as_data type_TXT octets) [ Ok own ↦ Some (words_of type_TXT own) | Err cause ↦ None ]
 rest_words rest.Hex octets = if length octets == 0 then None else Some (Plain (encode_lower octets) ∷ [])
 rest_words rest.Params octets = None
+rest_words rest.Location octets = None
 rest_words rest.Base64 octets = if length octets == 0 then None else Some (Plain (encode_of standard octets) ∷ [])
 
 -- the words of octets that are these fields and this rest; none of others

@@ -145,7 +145,7 @@ fn put_joined(text: &mut Vec<u8>, words: &[Word<'_>]) -> Result<(), Cause>
 }
 
 /// The characters of a word outside quotes.
-fn bare<'a>(word: Word<'a>) -> Result<&'a [u8], Cause>
+pub(crate) fn bare<'a>(word: Word<'a>) -> Result<&'a [u8], Cause>
     ensures text { IfOk result (λ text. bare_of (written word.entry) ≡ Ok text.now) }
     ensures fault { IfErr result (λ cause. bare_of (written word.entry) ≡ Err cause) }
 {

@@ -8,6 +8,7 @@ ghost use Rattle.zone_lexing.specs.Word.{written};
 
 use crate::encoded::{put_base64, put_eui, put_hex};
 use crate::forms::{Field, Rest};
+use crate::location::put_location;
 use crate::mnemonics::{all_algorithms, all_certificate_types, named};
 use crate::params::put_params;
 use crate::texts::{put_string, put_strings, put_tag, put_text};
@@ -105,6 +106,7 @@ fn put_rest(
         Rest::Hex => put_hex(alloc, octets, words),
         Rest::Base64 => put_base64(alloc, octets, words),
         Rest::Params => put_params(alloc, octets, words),
+        Rest::Location => put_location(octets, words),
     }
 }
 

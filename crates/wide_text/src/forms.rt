@@ -53,6 +53,8 @@ pub enum Rest {
     Base64,
     /// Parameters of a service (RFC 9460, 2.1).
     Params,
+    /// A place on the earth (RFC 1876, 3).
+    Location,
 }
 
 /// A type's word, its number and the form of its data.
@@ -69,7 +71,7 @@ pub struct Form {
 }
 
 /// The table.
-const FORMS: [Form; 24] = [
+const FORMS: [Form; 25] = [
     Form {
         word: "SOA",
         rtype: 6,
@@ -101,6 +103,12 @@ const FORMS: [Form; 24] = [
         rtype: 18,
         fields: &[Field::Short, Field::Name],
         rest: Rest::Nothing,
+    },
+    Form {
+        word: "LOC",
+        rtype: 29,
+        fields: &[],
+        rest: Rest::Location,
     },
     Form {
         word: "NAPTR",

@@ -1,20 +1,21 @@
-//! Parameters of services as words, in ascending order of their keys (RFC 9460, 2.1, 7, 8 and A.1).
-ghost use Rattle.std.specs.Prelude.{◌≡◌, ◌⊎◌, ◌<◌, ◌≤◌, ◌+◌, ◌∷◌, ℕ, List, length, drop, Result, Ok, Err, OnOk, IfOk, IfErr, map};
-ghost use Rattle.std.specs.Int.{to_be_bytes, w16};
+//! Parameters of services as words, and their octets in ascending order of their keys (RFC 9460, 2.1, 2.2, 7, 8 and A.1).
+ghost use Rattle.std.specs.Prelude.{◌≡◌, ◌⊎◌, ◌<◌, ◌≤◌, ◌+◌, ◌∷◌, [], ℕ, List, length, drop, Result, Ok, Err, OnOk, IfOk, IfErr, map};
+ghost use Rattle.std.specs.Int.{from_be_bytes, to_be_bytes, w16};
 ghost use Rattle.record_text.specs.Data.{IsToldOf};
 ghost use Rattle.record_text.specs.Number.{number_of};
 ghost use Rattle.record_text.specs.Private.{ReadsBehind};
 ghost use Rattle.record_text.specs.Reading.{on_ok};
 ghost use Rattle.wide_text.specs.Mnemonics.{mnemonic_seen};
-ghost use Rattle.wide_text.specs.Params.{after, are_rising, first_in, framed, item_of, key_len, key_numbered, key_of, list_from, list_of, mandatory_of, nothing_in, param_before, param_keys, param_of, params_of, shaped, value_of};
+ghost use Rattle.wide_text.specs.Params.{after, first_in, framed, item_of, key_len, key_numbered, key_of, keyed_seen, keys_among, list_from, list_of, mandatory_of, nothing_in, param_among, param_keys, param_of, params_among, params_of, put_among, shaped, value_of};
 ghost use Rattle.zone_lexing.specs.Word.{written};
 ghost use Rattle.zone_lexing.specs.Word.Written.{Plain};
 
 use crate::encoded::base64_in;
+use crate::keyed::{Keyed, put_all, put_among};
 use crate::mnemonics::{Mnemonic, is_word, number_named};
 use crate::texts::unescaped;
 use record_text::{Cause, address, address6, number};
-use std::alloc::Global;
+use std::alloc::{AllocError, Global};
 use zone_lexing::Word;
 
 /// What the items of a list are.
@@ -70,10 +71,11 @@ fn param_keys() -> &'static [Mnemonic]
     &PARAM_KEYS
 }
 
-/// Puts the octets of parameters after the others: a word a parameter, a key, or a key, `=` and its value, which may stand in quotes.
+/// Puts the octets of parameters after the others, in ascending order of keys: a word a parameter, a key, or a key, `=` and its value, which may
+/// stand in quotes.
 ///
-/// `BadData` at a word that is no parameter, at a value that isn't of its key's form, and at a key that isn't greater than the one before it;
-/// `Number` at a number that is none; `Unclosed` where no word stands; `NoMemory` where a growth was refused.
+/// `BadData` at a word that is no parameter, at a value that isn't of its key's form, and at a key that stands twice; `Number` at a number that
+/// is none; `Unclosed` where no word stands; `NoMemory` where a growth was refused.
 pub(crate) fn put_params(
     alloc: Global,
     octets: &mut Vec<u8>,
@@ -82,14 +84,24 @@ pub(crate) fn put_params(
     ensures put { OnOk result (ReadsBehind (params_of (map written words.now)) octets.old.items octets.new.items) }
     ensures fault { IfErr result (IsToldOf (params_of (map written words.now))) }
 {
-    let mut least = 0;
+    let params = params_in(alloc, words)?;
+    put_all(octets, &params)?;
+    Ok(())
+}
+
+/// The parameters that words spell, in ascending order of keys.
+fn params_in(alloc: Global, words: &[Word<'_>]) -> Result<Vec<Keyed>, Cause>
+    ensures params { IfOk result (λ own. params_among [] (map written words.now) ≡ Ok (map keyed_seen own.items)) }
+    ensures fault { IfErr result (IsToldOf (params_among [] (map written words.now))) }
+{
+    let mut params = Vec::new(alloc);
     let mut rest = words;
     while !rest.is_empty() {
         let part = first_in(rest)?;
-        least = put_part(alloc, octets, least, part)?;
+        put_part(alloc, &mut params, part)?;
         rest = &rest[part.count..];
     }
-    Ok(())
+    Ok(params)
 }
 
 /// A parameter as words.
@@ -135,15 +147,24 @@ fn first_in<'a>(words: &[Word<'a>]) -> Result<Part<'a>, Cause>
     }
 }
 
-/// Puts a parameter after the others, of a key that has to be the least one given or one after it, and returns the least key of the next one.
-fn put_part(alloc: Global, octets: &mut Vec<u8>, least: u32, part: Part<'_>) -> Result<u32, Cause>
-    ensures put { IfOk result (λ next. (more : ℕ → Result (List ℕ) Cause) → after octets.new.items (more next) ≡ after octets.old.items (param_before least part.entry.key.now part.entry.value.now more)) }
-    ensures within { IfOk result (λ next. next ≤ 65536) }
-    ensures fault { IfErr result (λ cause. (cause ≡ Cause.NoMemory) ⊎ ((more : ℕ → Result (List ℕ) Cause) → param_before least part.entry.key.now part.entry.value.now more ≡ Err cause)) }
+/// Puts a parameter among others.
+fn put_part(alloc: Global, params: &mut Vec<Keyed>, part: Part<'_>) -> Result<(), Cause>
+    ensures put { OnOk result (param_among (map keyed_seen params.old.items) part.entry.key.now part.entry.value.now ≡ Ok (map keyed_seen params.new.items)) }
+    ensures fault { IfErr result (IsToldOf (param_among (map keyed_seen params.old.items) part.entry.key.now part.entry.value.now)) }
 {
-    let key = key_of(part.key)?;
-    put_param(alloc, octets, least, key, part.value)?;
-    Ok(key + 1)
+    let param = param_of(alloc, part.key, part.value)?;
+    put_among(params, param)
+}
+
+/// The parameter that the texts of a key and of its value spell.
+fn param_of(alloc: Global, key: &[u8], text: &[u8]) -> Result<Keyed, Cause>
+    ensures param { IfOk result (λ own. param_of key.now text.now ≡ Ok (keyed_seen own)) }
+    ensures fault { IfErr result (IsToldOf (param_of key.now text.now)) }
+{
+    let key = key_of(key)?;
+    let value = value_of(alloc, key, text)?;
+    let octets = framed(alloc, key, &value)?;
+    Ok(Keyed { key, octets })
 }
 
 /// What stands after the octet at a place; nothing where the text ends there.
@@ -197,39 +218,21 @@ fn key_numbered(text: &[u8]) -> Result<u32, Cause>
     }
 }
 
-/// Puts a parameter after the others, of a key that has to be the least one given or one after it.
-fn put_param(
-    alloc: Global,
-    octets: &mut Vec<u8>,
-    least: u32,
-    key: u32,
-    text: &[u8],
-) -> Result<(), Cause>
+/// A value after its key and its length.
+fn framed(alloc: Global, key: u32, value: &[u8]) -> Result<Vec<u8>, Cause>
     requires { key ≤ 65535 }
-    ensures put { OnOk result (ReadsBehind (param_of least key text.now) octets.old.items octets.new.items) }
-    ensures fault { IfErr result (IsToldOf (param_of least key text.now)) }
-{
-    if key < least {
-        return Err(Cause::BadData);
-    }
-    let value = value_of(alloc, key, text)?;
-    put_framed(octets, key, &value)
-}
-
-/// Puts a value after its key and its length.
-fn put_framed(octets: &mut Vec<u8>, key: u32, value: &[u8]) -> Result<(), Cause>
-    requires { key ≤ 65535 }
-    ensures put { OnOk result (ReadsBehind (framed key value.now) octets.old.items octets.new.items) }
+    ensures octets { IfOk result (λ own. framed key value.now ≡ Ok own.items) }
     ensures fault { IfErr result (IsToldOf (framed key value.now)) }
 {
     if value.len() > 65_535 {
         return Err(Cause::BadData);
     }
     let (key, len) = (key as u16, value.len() as u16);
+    let mut octets = Vec::new(alloc);
     octets.extend_from_slice(&key.to_be_bytes())?;
     octets.extend_from_slice(&len.to_be_bytes())?;
     octets.extend_from_slice(value)?;
-    Ok(())
+    Ok(octets)
 }
 
 /// The octets of a value that a text spells.
@@ -294,35 +297,58 @@ fn port_of(alloc: Global, octets: &[u8]) -> Result<Vec<u8>, Cause>
     Ok(own)
 }
 
-/// The keys of `mandatory`.
+/// The keys of `mandatory`, in ascending order; it doesn't stand among them.
 fn mandatory_of(alloc: Global, octets: &[u8]) -> Result<Vec<u8>, Cause>
     ensures octets { IfOk result (λ own. mandatory_of octets.now ≡ Ok own.items) }
     ensures fault { IfErr result (IsToldOf (mandatory_of octets.now)) }
 {
-    let keys = list_of(alloc, Item::Key, octets)?;
-    if are_rising(&keys) {
+    let list = list_of(alloc, Item::Key, octets)?;
+    let keys = keys_in(alloc, &list)?;
+    let mut own = Vec::new(alloc);
+    put_all(&mut own, &keys)?;
+    Ok(own)
+}
+
+/// The keys that octets are, of two octets each, in ascending order, after that of `mandatory`, which has no octets.
+fn keys_in(alloc: Global, octets: &[u8]) -> Result<Vec<Keyed>, Cause>
+    ensures keys { IfOk result (λ own. keys_among (record { key = 0; octets = [] } ∷ []) octets.now ≡ Ok (map keyed_seen own.items)) }
+    ensures fault { IfErr result (IsToldOf (keys_among (record { key = 0; octets = [] } ∷ []) octets.now)) }
+{
+    let mut keys = first_key(alloc)?;
+    let mut rest = octets;
+    while let [a, b, after @ ..] = rest {
+        put_key(alloc, &mut keys, [*a, *b])?;
+        rest = after;
+    }
+    if rest.is_empty() {
         Ok(keys)
     } else {
         Err(Cause::BadData)
     }
 }
 
-/// Whether octets are numbers of two octets that rise from 1 on.
-#[tactic(auto, using(crate::proofs::ParamLemmas::rising_step))]
-fn are_rising(octets: &[u8]) -> bool
-    ensures { result ≡ are_rising 1 octets.now }
+/// The key of `mandatory`, without octets.
+fn first_key(alloc: Global) -> Result<Vec<Keyed>, AllocError>
+    ensures { IfOk result (λ own. map keyed_seen own.items ≡ record { key = 0; octets = [] } ∷ []) }
 {
-    let mut least = 1;
-    let mut rest = octets;
-    while let [a, b, after @ ..] = rest {
-        let number = u32::from(u16::from_be_bytes([*a, *b]));
-        if number < least {
-            return false;
-        }
-        least = number + 1;
-        rest = after;
-    }
-    rest.is_empty()
+    let mut keys = Vec::new(alloc);
+    let own = Keyed {
+        key: 0,
+        octets: Vec::new(alloc),
+    };
+    keys.push(own)?;
+    Ok(keys)
+}
+
+/// Puts a key of two octets among others.
+fn put_key(alloc: Global, keys: &mut Vec<Keyed>, octets: [u8; 2]) -> Result<(), Cause>
+    ensures put { OnOk result (put_among (record { key = from_be_bytes w16 octets; octets = octets }) (map keyed_seen keys.old.items) ≡ Ok (map keyed_seen keys.new.items)) }
+    ensures fault { IfErr result (IsToldOf (put_among (record { key = from_be_bytes w16 octets; octets = octets }) (map keyed_seen keys.old.items))) }
+{
+    let mut own = Vec::new(alloc);
+    own.extend_from_slice(&octets)?;
+    let key = u32::from(u16::from_be_bytes(octets));
+    put_among(keys, Keyed { key, octets: own })
 }
 
 /// The octets of the items of a list, with commas between; a backslash takes the octet after it into an item.

@@ -250,7 +250,7 @@ fn write_escaped(text: &mut String, octet: u8) -> Result<(), AllocError>
     }
 }
 
-/// Writes the words of the octets after the fields; false where they are no such words, and for parameters, which are written after `\\#`.
+/// Writes the words of the octets after the fields; false where they are no such words, and for parameters and places, which are written after `\\#`.
 #[tactic(auto, unfolding(crate::specs::Words::rest_words))]
 fn write_rest(
     alloc: Global,
@@ -265,7 +265,7 @@ fn write_rest(
         Rest::Strings => write_strings(alloc, text, octets),
         Rest::Hex => write_hex(alloc, text, octets),
         Rest::Base64 => write_base64(text, octets),
-        Rest::Params => Ok(false),
+        Rest::Params | Rest::Location => Ok(false),
     }
 }
 
