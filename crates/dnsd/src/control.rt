@@ -1,4 +1,5 @@
 //! The operator's commands to a running server: its control socket, and the thread that reads the zone file again for a reload.
+use crate::metrics::{about_of, beside_of};
 use command_line::Serve;
 use commands::Source;
 use dnsd_setup::{FileReader, StartedZone, bind_control_at, prepare_reloads, remove_control};
@@ -56,11 +57,11 @@ fn plan_for<R: AllocGlobal, S: Fn(FileReader) -> io::Result<()>>(
             Some(slot)
         }
     };
-    let beside = if serve.secondaries.is_empty() { 1 } else { 2 };
     Ok(ControlPlan {
         listener,
         reloads,
-        beside,
+        beside: beside_of(serve),
+        about: about_of(serve),
         first: 0,
         store: None,
     })

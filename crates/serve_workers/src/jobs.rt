@@ -123,7 +123,12 @@ pub(crate) fn jobs_of<'a, R: Clock + Net + Wait>(
         let Ok(scratch) = Scratch::new(alloc) else {
             return Err(ServeFault::NoMemory);
         };
-        let job = match spec.into_job(rt, alloc, plan, updates.wake_list_at(place), scratch) {
+        let shown = match plan.counters {
+            Some(counters) => counters.thread(place),
+            None => None,
+        };
+        let wakes = updates.wake_list_at(place);
+        let job = match spec.into_job(rt, alloc, plan, wakes, shown, scratch) {
             Ok(job) => job,
             Err(fault) => return Err(fault_of(&fault)),
         };

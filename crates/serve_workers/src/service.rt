@@ -15,6 +15,7 @@ use crate::signed_jobs::SharedKeys;
 use crate::thread_spec::ThreadSpec;
 use crate::threads::SocketJob;
 use crate::updates::Updates;
+use counters::ServerCounters;
 use dns_engine::{
     EngineFault, FirstZone, NoEngine, SharedVersion, VersionCell, VersionPublisher, VersionReader,
     ZoneVersions,
@@ -46,6 +47,8 @@ pub struct Plan<'a> {
     pub connections: ConnectionPlan<'a>,
     /// The keys by which requests are verified. None where signatures aren't checked.
     pub keys: Option<SharedKeys<'a>>,
+    /// Where the threads show what they count. None where nothing is counted.
+    pub counters: Option<&'a ServerCounters>,
 }
 
 impl<C: Clock> SocketJob<'_, C> {
@@ -58,8 +61,13 @@ impl<C: Clock> SocketJob<'_, C> {
             SocketJob::Connections(job) => job.end(),
             SocketJob::SignedDatagrams(signed) => signed.job.end(),
             SocketJob::SignedConnections(signed) => signed.job.end(),
+            SocketJob::CountedDatagrams(job) => job.end(),
+            SocketJob::CountedConnections(counted) => counted.job.end(),
+            SocketJob::CountedSignedDatagrams(signed) => signed.job.end(),
+            SocketJob::CountedSignedConnections(signed) => signed.job.job.end(),
             SocketJob::Secondaries(job) => job.end(),
             SocketJob::Control(job) => job.end(),
+            SocketJob::Metrics(job) => job.end(),
         };
         match end {
             Some(JobEnd::Device) => Some(ServeFault::Device),
@@ -91,10 +99,11 @@ fn context_for<'a, C: Clock, S: UpdateStore>(
     config: UpdateConfig<S>,
     specs: &[ThreadSpec<'_>],
     updates: &'a Updates,
-    keys: Option<SharedKeys<'a>>,
+    plan: Plan<'a>,
     clock: &'a C,
 ) -> Result<UpdateContext<'a, C, S>, ServeFault> {
-    match UpdateContext::new(alloc, config, specs, updates, keys, clock) {
+    let (keys, counters) = (plan.keys, plan.counters);
+    match UpdateContext::new(alloc, config, specs, updates, keys, counters, clock) {
         Ok(context) => Ok(context),
         Err(fault) => Err(fault_of(&fault)),
     }
@@ -154,7 +163,7 @@ fn serve_specs<
     requires kept { plan.keep ≤ KEPT }
 {
     let threads = specs.len();
-    let context = match context_for(alloc, config, &specs, updates, plan.keys, rt) {
+    let context = match context_for(alloc, config, &specs, updates, plan, rt) {
         Ok(context) => context,
         Err(fault) => return Err(fault),
     };

@@ -6,7 +6,10 @@ use crate::control_reload::{Reload, Step, after_judging, after_making, order};
 use crate::control_text::{ServedSince, StoreStatus, done, failed, stats, status};
 use crate::progress::Shutdown;
 use crate::reload_slot::{ReloadOrder, Reloads};
+use crate::served_facts::{About, RecordCount, metrics_of};
 use control_socket::{ControlClient, ControlCommand, Heard, accept_client};
+use counters::ServerCounters;
+use signed_replies::{SystemClock, UnixClock};
 use std::alloc::{AllocError, Global};
 use std::os::unix::net::UnixListener;
 use std::sync::Wait;
@@ -34,6 +37,8 @@ pub struct ControlPlan {
     pub first: u64,
     /// What is seen of the store; None where there is none.
     pub store: Option<SharedStoreState>,
+    /// What the server is.
+    pub about: About,
 }
 
 impl Drop for ControlPlan {
@@ -44,6 +49,7 @@ impl Drop for ControlPlan {
             beside: _,
             first: _,
             store: _,
+            about: _,
         } = self;
     }
 }
@@ -54,12 +60,16 @@ pub struct ControlJob<'a, C> {
     pub number: usize,
     alloc: Global,
     plan: ControlPlan,
+    /// What the server's threads count, if they do.
+    counters: Option<&'a ServerCounters>,
     clients: Vec<ControlClient>,
     reload: Reload,
     clock: &'a C,
     shutdown: &'a Shutdown,
-    /// When it was made, in milliseconds.
+    /// When it was made, in milliseconds of a monotonic clock, and in seconds since 1970.
     begun: u64,
+    started: u64,
+    records: RecordCount,
     obeyed: u64,
     end: Option<JobEnd>,
 }
@@ -70,11 +80,14 @@ impl<'a, C> Drop for ControlJob<'a, C> {
             number: _,
             alloc: _,
             plan: _,
+            counters: _,
             clients: _,
             reload: _,
             clock: _,
             shutdown: _,
             begun: _,
+            started: _,
+            records: _,
             obeyed: _,
             end: _,
         } = self;
@@ -96,6 +109,7 @@ impl<'a, C: Clock> ControlJob<'a, C> {
         alloc: Global,
         number: usize,
         plan: ControlPlan,
+        counters: Option<&'a ServerCounters>,
         clock: &'a C,
         shutdown: &'a Shutdown,
     ) -> Result<ControlJob<'a, C>, AllocError>
@@ -105,11 +119,14 @@ impl<'a, C: Clock> ControlJob<'a, C> {
             number,
             alloc,
             plan,
+            counters,
             clients: Vec::with_capacity(alloc, CLIENTS)?,
             reload: Reload::Idle,
             clock,
             shutdown,
             begun: millis_of(clock),
+            started: SystemClock::new(clock).now(),
+            records: RecordCount::new(),
             obeyed: 0,
             end: None,
         })
@@ -262,7 +279,7 @@ impl<'a, C: Clock> ControlJob<'a, C> {
                     return Ok(Obeyed::Reply(failed(self.alloc, "no version can be loaded")?));
                 };
                 let text = if command == ControlCommand::Stats {
-                    stats(self.alloc, version.get())?
+                    self.stats(rt, version.get())?
                 } else {
                     self.status(rt, version.get())?
                 };
@@ -286,6 +303,30 @@ impl<'a, C: Clock> ControlJob<'a, C> {
             uptime: millis_of(self.clock).saturating_sub(self.begun) / 1000,
         };
         status(self.alloc, version, since, &store)
+    }
+
+    /// The lines for Prometheus.
+    fn stats<R: Wait>(&mut self, rt: &R, version: &Version) -> Result<String, AllocError>
+        ensures number { self.new.number ≡ self.old.number }
+    {
+        let records = self.records.of(version);
+        let (about, started) = (self.plan.about, self.started);
+        let lines = match self.counters {
+            Some(server) => {
+                let mut rounds = Vec::new(self.alloc);
+                let sum = server.sum(rt, &mut rounds);
+                metrics_of(
+                    self.alloc,
+                    about,
+                    started,
+                    version,
+                    records,
+                    Some((server, &sum)),
+                )?
+            }
+            None => metrics_of(self.alloc, about, started, version, records, None)?,
+        };
+        stats(self.alloc, &lines)
     }
 
     /// Begins a reload, if none is under way.

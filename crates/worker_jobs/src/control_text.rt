@@ -1,8 +1,9 @@
 //! The replies to an operator's commands, as text.
+use crate::served_facts::count_of;
 use dns_rdata::{Rcode, Serial};
 use std::alloc::{AllocError, Global};
 use zone_change::ChangeSummary;
-use zone_tree::{Version, Zone, ZoneRead};
+use zone_tree::{Version, ZoneRead};
 
 /// The last line of a reply where the command is done.
 const DONE_LINE: &str = "ok\n";
@@ -84,18 +85,9 @@ fn put_store(text: &mut String, store: &StoreStatus) -> Result<(), AllocError> {
     Ok(())
 }
 
-/// The server's numbers, as lines for Prometheus.
-pub(crate) fn stats(alloc: Global, version: &Version) -> Result<String, AllocError> {
-    let zone = version.zone();
-    let (apex, serial, records) = (zone.apex(), zone.serial().0, count_of(zone));
-    let (apex, number) = (apex.to_text(), version.number());
-    let mut text = String::new(alloc);
-    write!(text, "dnsd_zone_serial{{zone=\"{apex}\"}} {serial}\n")?;
-    write!(text, "dnsd_zone_records{{zone=\"{apex}\"}} {records}\n")?;
-    write!(
-        text,
-        "dnsd_zone_versions_total{{zone=\"{apex}\"}} {number}\n"
-    )?;
+/// A reply of lines for Prometheus, and the line that says that the command is done.
+pub(crate) fn stats(alloc: Global, lines: &[u8]) -> Result<String, AllocError> {
+    let mut text = String::from_utf8_lossy(alloc, lines)?;
     text.push_str(DONE_LINE)?;
     Ok(text)
 }
@@ -145,13 +137,4 @@ pub(crate) fn refused(alloc: Global, code: Rcode) -> Result<String, AllocError> 
         _ => write!(reason, "the update got code {number}")?,
     }
     Ok(reason)
-}
-
-/// How many records a zone has.
-fn count_of(zone: &Zone) -> usize {
-    let mut records = 0usize;
-    for set in zone.walk() {
-        records = records.saturating_add(set.data().len());
-    }
-    records
 }
