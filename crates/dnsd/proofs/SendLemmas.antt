@@ -10,8 +10,8 @@ use Rattle.std.proofs.option.Option.TheSendSync as option
 use Rattle.std.proofs.sync.Mutex.TheSendSync as mutex
 use Rattle.std.specs.contracts.rt.LibcRuntime as runtime
 use Rattle.dns_engine.proofs.SendLemmas as engine
-use Rattle.worker_jobs.specs.contracts.reload_slot.Progress as progress
-use Rattle.worker_jobs.specs.contracts.reload_slot.ReloadSlot as slot
+use Rattle.server_control.specs.contracts.reload_slot.Progress as progress
+use Rattle.server_control.specs.contracts.reload_slot.ReloadSlot as slot
 use Rattle.dnsd_setup.specs.contracts.reload.FileReader as reader
 
 progress_send : IsSend progress.the_row

@@ -4,18 +4,21 @@ use command_line::{Serve, VERSION};
 use counters::ServerCounters;
 use dnsd_setup::bind_metrics;
 use log_lines::RecentLines;
-use serve_workers::{About, MetricsPlan, UdpDrops};
+use server_control::{About, MetricsPlan, UdpDrops};
+use signed_replies::{SystemClock, UnixClock};
 use std::alloc::{AllocError, Global};
 use std::fs::{File, Files};
 use std::io;
 use std::net::{Net, SocketAddr};
 use std::rt::Env;
 use std::sync::Arc;
+use std::time::Clock;
 
-/// What the server is.
-pub fn about_of(serve: &Serve<'_>) -> About {
+/// What the server is, which starts now.
+pub fn about_of<R: Clock>(rt: &R, serve: &Serve<'_>) -> About {
     About {
         program: VERSION,
+        started: SystemClock::new(rt).now(),
         has_store: serve.store.is_some(),
     }
 }
@@ -60,7 +63,7 @@ pub fn at_addresses(
 }
 
 /// Binds the socket for metrics, if they are told: what a thread needs that tells them.
-pub fn metrics_for<R: Files<File = File> + Net + Env + Eprint + AllocGlobal>(
+pub fn metrics_for<R: Files<File = File> + Net + Env + Eprint + AllocGlobal + Clock>(
     rt: &R,
     serve: &Serve<'_>,
 ) -> io::Result<Result<Option<MetricsPlan>, NotBound>> {
@@ -73,7 +76,7 @@ pub fn metrics_for<R: Files<File = File> + Net + Env + Eprint + AllocGlobal>(
             drops: drops_for(rt)?,
             lines: Arc::new(rt.alloc(), RecentLines::new(rt.alloc(), LINES))?,
             beside: beside_of(serve),
-            about: about_of(serve),
+            about: about_of(rt, serve),
         }))),
         Ok(None) => Ok(Err(NotBound)),
         Err(fault) => Err(fault),

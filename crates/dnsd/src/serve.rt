@@ -18,10 +18,8 @@ use dnsd_setup::{
 };
 use key_file::KeyFile;
 use requests::Allowed;
-use serve_workers::{
-    ConnectionPlan, ControlPlan, MetricsPlan, Most, Plan, ServeFault, Shutdown, ThreadSpec,
-    UpdateConfig, WorkLimit, serve_zone,
-};
+use serve_workers::{ConnectionPlan, Most, Plan, ThreadSpec, UpdateConfig, WorkLimit, serve_zone};
+use server_control::{ControlPlan, MetricsPlan, ServeFault, Shutdown};
 use std::alloc::Global;
 use std::fs::{File, Files};
 use std::marker::Brand;

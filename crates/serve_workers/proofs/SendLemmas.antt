@@ -22,7 +22,8 @@ use Rattle.signed_replies.specs.contracts.messages.SignedMessagesMessages.TheImp
 use Rattle.zone_replies.proofs.SendLemmas.{allowed_send, rule_sync}
 use Rattle.zone_replies.specs.contracts.transfer.Transfer as transfer
 use Rattle.zone_replies.specs.contracts.transfer.TransferMessages.TheImpl as sending
-use Rattle.worker_jobs.proofs.SendLemmas.{woken_sync, transfer_send, tcp_send, tcp_row_send, telling_send, control_send, keys_sync, signed_messages_send}
+use Rattle.worker_jobs.proofs.SendLemmas.{woken_sync, transfer_send, tcp_send, tcp_row_send, telling_send, keys_sync, signed_messages_send}
+use Rattle.server_control.proofs.SendLemmas.{control_send}
 use Rattle.worker_jobs.specs.contracts.datagrams_job.DatagramsJob as datagrams
 use Rattle.worker_jobs.specs.contracts.worker_socket.WorkerSocket as socket
 use Rattle.serve_workers.specs.contracts.signed_jobs.SharedKeys as shared_keys

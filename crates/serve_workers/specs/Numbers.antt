@@ -3,8 +3,8 @@ use Rattle.std.specs.Prelude.{◌≡◌, ℕ, Bool, true, false, List, Option, N
 use Rattle.rights.specs.declared.rule.Rule.{Rule}
 use Rattle.zone_server.specs.declared.service_log.JobEnd.{JobEnd}
 use Rattle.zone_server.specs.declared.service_log.JobEnd.TheVariants.{Done, Device, Spent, NoMemory}
-use Rattle.worker_jobs.specs.declared.serve_fault.ServeFault.{ServeFault}
-use Rattle.worker_jobs.specs.declared.serve_fault.ServeFault.TheVariants.{Device as HasFailed, Spent as IsSpent, NoMemory as IsStarved}
+use Rattle.server_control.specs.declared.serve_fault.ServeFault.{ServeFault}
+use Rattle.server_control.specs.declared.serve_fault.ServeFault.TheVariants.{Device as HasFailed, Spent as IsSpent, NoMemory as IsStarved}
 use Rattle.serve_workers.specs.declared.thread_spec.Sockets.{Sockets}
 use Rattle.serve_workers.specs.declared.thread_spec.Sockets.TheVariants.{Datagrams as OfDatagrams, Connections as OfConnections, Secondaries as OfSecondaries, Control as OfControl, Metrics as OfMetrics}
 use Rattle.serve_workers.specs.declared.threads.SocketJob.{SocketJob}

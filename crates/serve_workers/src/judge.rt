@@ -6,12 +6,13 @@ use crate::thread_spec::ThreadSpec;
 use crate::updates::Updates;
 use counters::ServerCounters;
 use dns_engine::{FirstZone, VersionReader};
+use server_control::Shutdown;
 use std::alloc::Global;
 use std::io;
 use std::sync::Wait;
 use std::time::Clock;
 use update_batches::{Most, UpdatePublisher, UpdateStore, UpdateThread};
-use worker_jobs::{MainTask, Shutdown};
+use worker_jobs::MainTask;
 use zone_server::{PublishRight, Server, ServerName, ServerPublisher, ServiceLog};
 
 /// How the update thread judges the updates that the other threads submit.

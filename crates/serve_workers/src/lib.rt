@@ -22,7 +22,4 @@ pub use signed_jobs::SharedKeys;
 pub use tcp_loop::Plan as ConnectionPlan;
 pub use thread_spec::{Sockets, ThreadSpec};
 pub use update_batches::Most;
-pub use worker_jobs::{
-    About, ControlPlan, MetricsPlan, NotifySocket, Secondaries, ServeFault, Shutdown, UdpDrops,
-    WorkLimit,
-};
+pub use worker_jobs::{NotifySocket, Secondaries, WorkLimit};

@@ -20,6 +20,7 @@ use dns_engine::{
     EngineFault, FirstZone, NoEngine, SharedVersion, VersionCell, VersionPublisher, VersionReader,
     ZoneVersions,
 };
+use server_control::{ServeFault, Shutdown};
 use snapshot_cell::{
     Cell, NamedCell, NamedPublisher, NamedReader, Naming, NewFault, Parts, Reader,
 };
@@ -31,7 +32,7 @@ use std::thread::Threads;
 use std::time::Clock;
 use tcp_loop::Plan as ConnectionPlan;
 use update_batches::{Most, UpdateStore};
-use worker_jobs::{MainTask, ServeFault, Shutdown};
+use worker_jobs::MainTask;
 use zone_server::{JobEnd, PublishRight, Server, ServerLedgers, ServerName, ServiceLog};
 
 /// How a zone is served.

@@ -9,14 +9,14 @@ use crate::signed_jobs::SignedJob;
 use crate::threads::{SocketJob, UdpJob};
 use counters::SharedCounters;
 use message_counts::{DatagramCounts, NoCounts, ThreadCounts};
+use server_control::{ControlJob, ControlPlan, MetricsJob, MetricsPlan};
 use std::alloc::Global;
 use std::io;
 use std::net::{Net, TcpListener, UdpSocket};
 use std::sync::Wait;
 use std::time::Clock;
 use worker_jobs::{
-    ControlJob, ControlPlan, DatagramsJob, MetricsJob, MetricsPlan, NotifyJob, Scratch,
-    Secondaries, StopFlag, WakeList, WorkLimit, WorkerSocket,
+    DatagramsJob, NotifyJob, Scratch, Secondaries, StopFlag, WakeList, WorkLimit, WorkerSocket,
 };
 
 /// What one thread serves.

@@ -10,6 +10,7 @@ use counted_requests::{CountedMessages, CountingConnections};
 use dns_engine::{FirstZone, VersionReader};
 use message_counts::{DatagramCounts, NoCounts, ThreadCounts};
 use serve_core::{Peer, Transport};
+use server_control::{ControlJob, MetricsJob};
 use signed_replies::{
     KeyRing, PlainRoom, RingKeys, SignedConnections, SignedDatagrams, SignedMessages, SystemClock,
 };
@@ -18,9 +19,7 @@ use std::alloc::Global;
 use std::marker::Brand;
 use std::sync::Wait;
 use std::time::Clock;
-use worker_jobs::{
-    ConnectionsJob, ControlJob, DatagramsJob, MetricsJob, NotifyJob, WorkerSocket, nobody,
-};
+use worker_jobs::{ConnectionsJob, DatagramsJob, NotifyJob, WorkerSocket, nobody};
 use zone_replies::{ConnectionHandler, Transfer};
 use zone_server::{
     DatagramHandler, Event, JobEnd, Server, ServerName, ServiceLog, TsigLines, UpdateSender,

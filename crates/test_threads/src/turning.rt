@@ -6,6 +6,7 @@ use counted_requests::Resting;
 use memory_devices::{Kept, asker};
 use requests::{Allowed, StreamEnd};
 use serve_core::{Peer, Transport};
+use server_control::Shutdown;
 use std::alloc::Global;
 use std::io;
 use std::net::SocketAddr;
@@ -14,7 +15,7 @@ use std::sync::atomic::{AtomicU64, Ordering};
 use std::time::{Clock, Duration};
 use tcp_connections::{Blocking, Fault, Handler, Limits, Reply};
 use tcp_loop::{Arrivals, EventLoop, NotWatched, Plan, Readiness, Refusal, Remote, Tally};
-use worker_jobs::{ConnectionsJob, Scratch, Shutdown, StopFlag, WakeList, WorkLimit};
+use worker_jobs::{ConnectionsJob, Scratch, StopFlag, WakeList, WorkLimit};
 use zone_replies::Transfer;
 use zone_server::JobEnd;
 

@@ -3,12 +3,12 @@ ghost use Rattle.std.specs.Prelude.{◌≡◌, ◌≤◌, length, Some, IfOk};
 ghost use Rattle.requests.specs.Served.{Grows};
 
 use crate::notify_socket::{MAX_SIGNED, MOST_REPLIES, NotifySocket};
-use crate::progress::Shutdown;
 use counters::{SecondaryCounters, ServerCounters};
 use dns_name::Name;
 use notify::{Due, Heard, MAX_NOTIFY, Notifier};
 use rand_chacha::ChaCha20Rng;
 use rand_core::{Rng, SeedableRng};
+use server_control::Shutdown;
 use signed_replies::{SystemClock, UnixClock};
 use std::alloc::{AllocError, Global};
 use std::net::SocketAddr;

@@ -1,0 +1,137 @@
+//! What a server tells of itself, for Prometheus.
+use counters::{Counters, ServerCounters};
+use metric_families::{
+    Drops, Facts, SecondaryFacts, StoreFacts, counter_families, drop_families, secondary_families,
+    server_families, store_families,
+};
+use metrics_text::{Family, write_metrics};
+use std::alloc::{AllocError, Global};
+use zone_tree::{Version, Zone, ZoneRead};
+
+/// What a server is.
+#[derive(Clone, Copy)]
+pub struct About {
+    /// The program's version.
+    pub program: &'static str,
+    /// When it was started, in seconds since 1970.
+    pub started: u64,
+    /// Whether its updates are stored.
+    pub has_store: bool,
+}
+
+/// How many records the last version has that they were counted of.
+#[derive(Clone, Copy)]
+pub(crate) struct RecordCount {
+    counted: Option<(u64, u64)>,
+}
+
+impl RecordCount {
+    /// They weren't counted yet.
+    pub(crate) fn new() -> RecordCount {
+        RecordCount { counted: None }
+    }
+
+    /// How many records a version has. They are counted anew only where it is another version than the last one.
+    pub(crate) fn of(&mut self, version: &Version) -> u64 {
+        let number = version.number();
+        if let Some((last, records)) = self.counted {
+            if last == number {
+                return records;
+            }
+        }
+        let records = count_of(version.zone()) as u64;
+        self.counted = Some((number, records));
+        records
+    }
+}
+
+/// What is told of a server with its version that was published last.
+pub(crate) fn metrics_of(
+    alloc: Global,
+    about: About,
+    started: u64,
+    version: &Version,
+    records: u64,
+    counted: Option<(&ServerCounters, &Counters)>,
+) -> Result<Vec<u8>, AllocError> {
+    let zone = version.zone();
+    let apex = zone.apex().to_text();
+    let facts = Facts {
+        version: about.program,
+        started,
+        zone: apex.as_str(),
+        serial: zone.serial().0,
+        records,
+        versions: version.number(),
+    };
+    let mut families = Vec::new(alloc);
+    server_families(alloc, &mut families, facts)?;
+    if let Some((server, sum)) = counted {
+        put_counted(alloc, &mut families, about, server, sum)?;
+    }
+    let mut text = Vec::new(alloc);
+    write_metrics(&mut text, families.as_slice())?;
+    Ok(text)
+}
+
+/// Puts the families of what is counted after others.
+fn put_counted(
+    alloc: Global,
+    families: &mut Vec<Family>,
+    about: About,
+    server: &ServerCounters,
+    sum: &Counters,
+) -> Result<(), AllocError> {
+    counter_families(alloc, families, sum, about.has_store)?;
+    if about.has_store {
+        let facts = StoreFacts {
+            is_failing: server.is_store_failing(),
+            journal: server.journal(),
+        };
+        store_families(alloc, families, facts)?;
+    }
+    if !server.secondaries().is_empty() {
+        let secondaries = secondaries_of(alloc, server)?;
+        secondary_families(alloc, families, secondaries.as_slice())?;
+    }
+    Ok(())
+}
+
+/// Puts what the system dropped at the end of what is told.
+pub(crate) fn put_drops(
+    alloc: Global,
+    text: &mut Vec<u8>,
+    drops: &[Drops],
+) -> Result<(), AllocError> {
+    let mut families = Vec::new(alloc);
+    drop_families(alloc, &mut families, drops)?;
+    write_metrics(text, families.as_slice())
+}
+
+/// What is known of the secondaries.
+fn secondaries_of(
+    alloc: Global,
+    server: &ServerCounters,
+) -> Result<Vec<SecondaryFacts>, AllocError> {
+    let mut facts = Vec::new(alloc);
+    for each in server.secondaries() {
+        let address = each.address;
+        facts.push(SecondaryFacts {
+            address: format!(in alloc; "{address}")?,
+            sent: each.sent(),
+            answered: each.answered(),
+            given_up: each.given_up(),
+            serial: each.serial(),
+        })?;
+    }
+    Ok(facts)
+}
+
+/// How many records a zone has.
+pub(crate) fn count_of(zone: &Zone) -> usize {
+    let mut records = 0usize;
+    for set in zone.walk() {
+        records = records.saturating_add(set.data().len());
+    }
+    records
+}
