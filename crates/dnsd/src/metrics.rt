@@ -2,7 +2,7 @@
 use crate::control::NotBound;
 use command_line::{Serve, VERSION};
 use counters::ServerCounters;
-use dnsd_setup::bind_metrics;
+use dnsd_setup::{StartedZone, bind_metrics};
 use log_lines::RecentLines;
 use serve_workers::{About, MetricsPlan, UdpDrops};
 use std::alloc::{AllocError, Global};
@@ -13,11 +13,8 @@ use std::rt::Env;
 use std::sync::Arc;
 
 /// What the server is.
-pub fn about_of(serve: &Serve<'_>) -> About {
-    About {
-        program: VERSION,
-        has_store: serve.store.is_some(),
-    }
+pub fn about() -> About {
+    About { program: VERSION }
 }
 
 /// How many threads of the server answer no requests.
@@ -45,9 +42,10 @@ fn drops_for<R: Files<File = File> + AllocGlobal>(rt: &R) -> io::Result<UdpDrops
     Ok(UdpDrops::new(rt.alloc(), files))
 }
 
-/// The plan for telling metrics, if there is one, of a server at these addresses. The fault is a growth that was refused.
-pub fn at_addresses(
+/// The plan for telling metrics, if there is one, of a server that begins with this at these addresses. The fault is a growth that was refused.
+pub fn metrics_of(
     metrics: Option<MetricsPlan>,
+    begun: &StartedZone,
     addresses: &[SocketAddr],
 ) -> Result<Option<MetricsPlan>, AllocError> {
     let Some(mut plan) = metrics else {
@@ -56,6 +54,7 @@ pub fn at_addresses(
     for address in addresses {
         plan.drops.watch(*address)?;
     }
+    plan.store = begun.store_state()?;
     Ok(Some(plan))
 }
 
@@ -73,7 +72,8 @@ pub fn metrics_for<R: Files<File = File> + Net + Env + Eprint + AllocGlobal>(
             drops: drops_for(rt)?,
             lines: Arc::new(rt.alloc(), RecentLines::new(rt.alloc(), LINES))?,
             beside: beside_of(serve),
-            about: about_of(serve),
+            store: None,
+            about: about(),
         }))),
         Ok(None) => Ok(Err(NotBound)),
         Err(fault) => Err(fault),

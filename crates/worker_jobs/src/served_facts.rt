@@ -6,6 +6,8 @@ use metric_families::{
 };
 use metrics_text::{Family, write_metrics};
 use std::alloc::{AllocError, Global};
+use std::sync::Wait;
+use update_batches::SharedStoreState;
 use zone_tree::{Version, Zone, ZoneRead};
 
 /// What a server is.
@@ -13,8 +15,6 @@ use zone_tree::{Version, Zone, ZoneRead};
 pub struct About {
     /// The program's version.
     pub program: &'static str,
-    /// Whether its updates are stored.
-    pub has_store: bool,
 }
 
 /// How many records the last version has that they were counted of.
@@ -43,7 +43,7 @@ impl RecordCount {
     }
 }
 
-/// What is told of a server with its version that was published last.
+/// What is told of a server with its version that was published last, and of its store, if it has one.
 pub(crate) fn metrics_of(
     alloc: Global,
     about: About,
@@ -51,6 +51,7 @@ pub(crate) fn metrics_of(
     version: &Version,
     records: u64,
     counted: Option<(&ServerCounters, &Counters)>,
+    store: Option<StoreFacts>,
 ) -> Result<Vec<u8>, AllocError> {
     let zone = version.zone();
     let apex = zone.apex().to_text();
@@ -65,29 +66,40 @@ pub(crate) fn metrics_of(
     let mut families = Vec::new(alloc);
     server_families(alloc, &mut families, facts)?;
     if let Some((server, sum)) = counted {
-        put_counted(alloc, &mut families, about, server, sum)?;
+        put_counted(alloc, &mut families, server, sum, store.is_some())?;
+    }
+    if let Some(facts) = store {
+        store_families(alloc, &mut families, facts)?;
     }
     let mut text = Vec::new(alloc);
     write_metrics(&mut text, families.as_slice())?;
     Ok(text)
 }
 
+/// What is seen of a store, if there is one. The fault is a request for memory that was refused.
+pub(crate) fn store_facts<R: Wait>(
+    rt: &R,
+    alloc: Global,
+    store: &Option<SharedStoreState>,
+) -> Result<Option<StoreFacts>, AllocError> {
+    match store {
+        None => Ok(None),
+        Some(state) => Ok(Some(StoreFacts {
+            is_failing: state.fault(rt, alloc)?.is_some(),
+            journal: state.journal(),
+        })),
+    }
+}
+
 /// Puts the families of what is counted after others.
 fn put_counted(
     alloc: Global,
     families: &mut Vec<Family>,
-    about: About,
     server: &ServerCounters,
     sum: &Counters,
+    has_store: bool,
 ) -> Result<(), AllocError> {
-    counter_families(alloc, families, sum, about.has_store)?;
-    if about.has_store {
-        let facts = StoreFacts {
-            is_failing: server.is_store_failing(),
-            journal: server.journal(),
-        };
-        store_families(alloc, families, facts)?;
-    }
+    counter_families(alloc, families, sum, has_store)?;
     if !server.secondaries().is_empty() {
         let secondaries = secondaries_of(alloc, server)?;
         secondary_families(alloc, families, secondaries.as_slice())?;
