@@ -9,6 +9,7 @@ mod connection_end;
 mod counter;
 mod counters;
 mod opcode;
+mod open_updates;
 mod qtype;
 mod rcode;
 mod refusal;

@@ -19,11 +19,11 @@ impl ServerCounters {
     pub fn new(alloc: Global, count: usize) -> Result<ServerCounters, AllocError> {
         let mut threads = Vec::new(alloc);
         for _place in 0..count {
-            threads.push(SharedCounters::new())?;
+            threads.push(SharedCounters::new(alloc)?)?;
         }
         Ok(ServerCounters {
             threads,
-            updates: SharedCounters::new(),
+            updates: SharedCounters::new(alloc)?,
             secondaries: Vec::new(alloc),
         })
     }

@@ -60,7 +60,7 @@ impl Times {
 }
 
 /// The bucket of a time in nanoseconds: how many bounds lie below it.
-fn bucket_of(nanoseconds: u64) -> usize
+pub(crate) fn bucket_of(nanoseconds: u64) -> usize
     ensures place { result ≡ bucket_of nanoseconds }
     ensures within { result < 12 }
 {

@@ -71,7 +71,8 @@ fn counter_of(event: &Event) -> Option<Counter> {
             ..
         } => Some(Counter::UpdateRefused(Refusal::Permission)),
         Event::BadTsig {
-            is_update: true, ..
+            is_update: true,
+            ..
         } => Some(Counter::UpdateRefused(Refusal::Signature)),
         _ => None,
     }

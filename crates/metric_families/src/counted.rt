@@ -92,6 +92,12 @@ fn put_updates(
         sum.get(Counter::UpdateChanged),
     )?)?;
     families.push(refusals(alloc, sum)?)?;
+    families.push(times_family(
+        alloc,
+        "dnsd_update_seconds",
+        "How long an update took, from its receipt to its reply",
+        &sum.updates,
+    )?)?;
     Ok(())
 }
 

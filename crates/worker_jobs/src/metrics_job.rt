@@ -419,9 +419,12 @@ impl<'a, C: Clock> MetricsJob<'a, C> {
 fn store_word(store: Option<StoreFacts>) -> &'static str {
     match store {
         None => "none",
-        Some(StoreFacts {
-            is_failing: true, ..
-        }) => "failing",
+        Some(
+            StoreFacts {
+                is_failing: true,
+                ..
+            },
+        ) => "failing",
         Some(_) => "ok",
     }
 }
