@@ -4,7 +4,7 @@ use command_line::{Serve, VERSION};
 use counters::ServerCounters;
 use dnsd_setup::{StartedZone, bind_metrics};
 use log_lines::RecentLines;
-use serve_workers::{About, MetricsPlan, UdpDrops};
+use serve_workers::{About, MetricsPlan, ProcessFiles, UdpDrops};
 use std::alloc::{AllocError, Global};
 use std::fs::{File, Files};
 use std::io;
@@ -42,6 +42,13 @@ fn drops_for<R: Files<File = File> + AllocGlobal>(rt: &R) -> io::Result<UdpDrops
     Ok(UdpDrops::new(rt.alloc(), files))
 }
 
+/// The files in which the system tells of the process (Linux, proc(5)).
+fn process_for<R: Files<File = File>>(rt: &R) -> ProcessFiles {
+    let times = File::open(rt, "/proc/self/stat").ok();
+    let memory = File::open(rt, "/proc/self/status").ok();
+    ProcessFiles::new(times, memory)
+}
+
 /// The plan for telling metrics, if there is one, of a server that begins with this at these addresses. The fault is a growth that was refused.
 pub fn metrics_of(
     metrics: Option<MetricsPlan>,
@@ -70,6 +77,7 @@ pub fn metrics_for<R: Files<File = File> + Net + Env + Eprint + AllocGlobal>(
         Ok(Some(listener)) => Ok(Ok(Some(MetricsPlan {
             listener,
             drops: drops_for(rt)?,
+            process: process_for(rt),
             lines: Arc::new(rt.alloc(), RecentLines::new(rt.alloc(), LINES))?,
             beside: beside_of(serve),
             store: None,

@@ -86,7 +86,7 @@ impl<'a, C: Clock> ThreadCounts<'a, C> {
             Some(number) if asks_transfer(number) => Some(number),
             _ => None,
         };
-        self.unshown = self.unshown.saturating_add(1);
+        self.unshown = self.unshown.wrapping_add(1);
         if self.unshown >= SHOWN_EACH {
             self.show();
         }

@@ -23,6 +23,6 @@ pub use tcp_loop::Plan as ConnectionPlan;
 pub use thread_spec::{Sockets, ThreadSpec};
 pub use update_batches::Most;
 pub use worker_jobs::{
-    About, ControlPlan, MetricsPlan, NotifySocket, Secondaries, ServeFault, Shutdown, UdpDrops,
-    WorkLimit,
+    About, ControlPlan, MetricsPlan, NotifySocket, ProcessFiles, Secondaries, ServeFault, Shutdown,
+    UdpDrops, WorkLimit,
 };

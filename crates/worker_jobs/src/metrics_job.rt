@@ -3,9 +3,10 @@ ghost use Rattle.std.specs.Prelude.{◌≡◌, Some, IfOk};
 ghost use Rattle.requests.specs.Served.{Grows};
 
 use crate::metrics_client::{MetricsClient, accept_client};
+use crate::process_files::ProcessFiles;
 use crate::progress::Shutdown;
 use crate::rates::{Rates, is_due};
-use crate::served_facts::{About, RecordCount, metrics_of, put_drops, store_facts};
+use crate::served_facts::{About, RecordCount, metrics_of, put_drops, put_process, store_facts};
 use crate::thread_rounds::ThreadRounds;
 use crate::udp_drops::UdpDrops;
 use counters::{
@@ -44,6 +45,8 @@ pub struct MetricsPlan {
     pub listener: TcpListener,
     /// What the system dropped.
     pub drops: UdpDrops,
+    /// What the system knows of the process.
+    pub process: ProcessFiles,
     /// The last lines of the log.
     pub lines: Arc<RecentLines, Global>,
     /// How many threads of the server answer no requests, with this one.
@@ -59,6 +62,7 @@ impl Drop for MetricsPlan {
         let MetricsPlan {
             listener: _,
             drops: _,
+            process: _,
             lines: _,
             beside: _,
             store: _,
@@ -341,6 +345,9 @@ impl<'a, C: Clock> MetricsJob<'a, C> {
         let drops = self.plan.drops.read(alloc)?;
         if let Some(drops) = &drops {
             put_drops(alloc, &mut body, drops.as_slice())?;
+        }
+        if let Some(facts) = self.plan.process.read(alloc)? {
+            put_process(alloc, &mut body, facts)?;
         }
         replied(self.alloc, Status::Ok, Content::Metrics, &body)
     }

@@ -1,8 +1,8 @@
 //! What a server tells of itself, for Prometheus.
 use counters::{Counters, ServerCounters};
 use metric_families::{
-    Drops, Facts, SecondaryFacts, StoreFacts, counter_families, drop_families, secondary_families,
-    server_families, store_families,
+    Drops, Facts, ProcessFacts, SecondaryFacts, StoreFacts, counter_families, drop_families,
+    process_families, secondary_families, server_families, store_families,
 };
 use metrics_text::{Family, write_metrics};
 use std::alloc::{AllocError, Global};
@@ -115,6 +115,17 @@ pub(crate) fn put_drops(
 ) -> Result<(), AllocError> {
     let mut families = Vec::new(alloc);
     drop_families(alloc, &mut families, drops)?;
+    write_metrics(text, families.as_slice())
+}
+
+/// Puts what the system knows of the process at the end of what is told.
+pub(crate) fn put_process(
+    alloc: Global,
+    text: &mut Vec<u8>,
+    facts: ProcessFacts,
+) -> Result<(), AllocError> {
+    let mut families = Vec::new(alloc);
+    process_families(alloc, &mut families, facts)?;
     write_metrics(text, families.as_slice())
 }
 
