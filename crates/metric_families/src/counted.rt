@@ -92,6 +92,12 @@ fn put_updates(
         sum.get(Counter::UpdateChanged),
     )?)?;
     families.push(refusals(alloc, sum)?)?;
+    families.push(times_family(
+        alloc,
+        "dnsd_update_seconds",
+        "How long an update took, from its receipt to its reply",
+        &sum.updates,
+    )?)?;
     Ok(())
 }
 
@@ -233,19 +239,11 @@ fn update_rcodes(alloc: Global, sum: &Counters) -> Result<Family, AllocError> {
     Ok(family)
 }
 
-/// The reasons for which updates are counted as refused.
-const REFUSALS: [Refusal; 4] = [
-    Refusal::Permission,
-    Refusal::Prerequisite,
-    Refusal::Form,
-    Refusal::Failure,
-];
-
 /// The family of refused updates by reason.
 fn refusals(alloc: Global, sum: &Counters) -> Result<Family, AllocError> {
     let help = "Updates that were refused, by the reason";
     let mut family = Family::new(alloc, "dnsd_updates_refused_total", help, COUNTER);
-    for reason in REFUSALS {
+    for reason in Refusal::ALL {
         let number = sum.get(Counter::UpdateRefused(reason));
         put_labelled(&mut family, alloc, "reason", reason.word(), number)?;
     }

@@ -69,8 +69,8 @@ fn put_zone(alloc: Global, families: &mut Vec<Family>, facts: Facts<'_>) -> Resu
 pub struct StoreFacts {
     /// Whether the last write failed.
     pub is_failing: bool,
-    /// How many octets the journal has; None where that isn't known yet.
-    pub journal: Option<u64>,
+    /// How many octets the journal has.
+    pub journal: u64,
 }
 
 /// Puts the families of what is known of a store after others. The fault is a request for memory that was refused; some may then be there.
@@ -86,15 +86,13 @@ pub fn store_families(
         GAUGE,
         u64::from(facts.is_failing),
     )?)?;
-    if let Some(octets) = facts.journal {
-        families.push(single(
-            alloc,
-            "dnsd_store_journal_bytes",
-            "Bytes of the store's journal",
-            GAUGE,
-            octets,
-        )?)?;
-    }
+    families.push(single(
+        alloc,
+        "dnsd_store_journal_bytes",
+        "Bytes of the store's journal",
+        GAUGE,
+        facts.journal,
+    )?)?;
     Ok(())
 }
 
