@@ -1,5 +1,5 @@
 -- Rates over time, as a line (SVG 2, 10.6).
-use Rattle.std.specs.Prelude.{ℕ, ◌+◌, ◌-◌, ◌*◌, ◌/◌, ◌^◌, List, [], ◌∷◌, ◌++◌, codes, decimal, flat_map, max, min}
+use Rattle.std.specs.Prelude.{ℕ, ◌+◌, ◌-◌, ◌*◌, ◌/◌, ◌^◌, List, [], ◌∷◌, ◌++◌, codes, decimal, max, min}
 use Rattle.http_page.specs.Html.{escaped}
 
 -- what a graph shows, and its rates, the oldest first
