@@ -1,14 +1,14 @@
 -- A turn is taken, and what is counted and told of it leaves its connections.
 use Rattle.std.proofs.Common.{◌∙◌}
 use Rattle.tcp_loop.specs.Steps.{unturned}
-use Rattle.worker_jobs.proofs.TurnedLemmas.{one_turned}
+use Rattle.worker_jobs.proofs.TurnedLemmas.{rested_turned}
 use Rattle.worker_jobs.proofs.connections_job.ConnectionsJob.turn.Goals as goal
 
 pub returns-then-is_over-clause-turned : goal.returns-then-is_over-clause-turned
 returns-then-is_over-clause-turned g c = unturned
 
 pub returns-in-Ok-clause-turned : goal.returns-in-Ok-clause-turned
-returns-in-Ok-clause-turned g c = one_turned _ _ _ _ _ _ _ _ _ _ c.poll_once-taken.ensures.turned (c.tell.ensures.event_loop ∙ c.count.ensures.event_loop)
+returns-in-Ok-clause-turned g c = rested_turned _ _ _ _ _ _ _ _ _ _ _ c.rest.ensures.same c.poll_once-taken.ensures.turned (c.tell.ensures.event_loop ∙ c.count.ensures.event_loop)
 
 pub returns-in-Err-clause-turned : goal.returns-in-Err-clause-turned
-returns-in-Err-clause-turned g c = one_turned _ _ _ _ _ _ _ _ _ _ c.poll_once-taken.ensures.turned (c.tell.ensures.event_loop ∙ c.count.ensures.event_loop)
+returns-in-Err-clause-turned g c = rested_turned _ _ _ _ _ _ _ _ _ _ _ c.rest.ensures.same c.poll_once-taken.ensures.turned (c.tell.ensures.event_loop ∙ c.count.ensures.event_loop)
