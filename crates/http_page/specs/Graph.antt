@@ -27,7 +27,7 @@ points_text x most (rate ∷ rates) = point_text x most rate ++ points_text (min
 
 -- what stands between a graph's title and its points
 unfoldable pub graph_front : List ℕ
-graph_front = codes "</h2>\n<svg viewBox=\"0 0 600 100\"><polyline points=\""
+graph_front = codes "</h2>\n<svg viewBox=\"0 0 600 100\" width=\"900\"><polyline fill=\"none\" stroke=\"#06c\" points=\""
 
 -- what stands after them
 unfoldable pub graph_back : List ℕ
