@@ -11,6 +11,8 @@ mod change;
 mod control;
 mod deploy;
 pub mod descriptors;
+mod file_report;
+mod includes;
 mod kept;
 mod keys;
 mod levels;

@@ -4,6 +4,7 @@ use crate::zone_text::ZoneText;
 use commands::{
     Command, DONE, Ended, Fault, Outcome, Source, report_fault_of, run_text, run_with_zone,
 };
+use master_file::FileFault;
 use std::alloc::Global;
 use std::io::{self, BufRead, BufReader, BufWriter, Write};
 use std::rt::Files;
@@ -50,6 +51,14 @@ pub fn run_on_streams<R: Files + Print + Eprint + Input + AllocGlobal>(
     }
 }
 
+/// What is wrong with the zone's text, where a command failed for that.
+fn zone_fault(done: &Result<(), Fault>) -> Option<FileFault> {
+    match done {
+        Err(Fault::Zone(fault)) => Some(*fault),
+        _ => None,
+    }
+}
+
 /// Runs a command over the zone of a text, with requests from `input` and replies to `output`.
 fn run_over_text<I: BufRead, O: Write + Drop>(
     alloc: Global,
@@ -65,7 +74,10 @@ fn run_over_text<I: BufRead, O: Write + Drop>(
         at_root,
         large,
     } = run_with_zone(alloc, command, text.octets(), input, output);
-    let mut status = report_fault_of(alloc, done, command.zone(), text.shown(), errors);
+    let mut status = match zone_fault(&done) {
+        Some(fault) => text.report(alloc, command.zone(), fault, errors)?,
+        None => report_fault_of(alloc, done, command.zone(), &[], errors),
+    };
     if has_warnings && status == DONE {
         status = tell_warnings(alloc, command, text, errors)?;
     }
@@ -85,15 +97,10 @@ fn tell_warnings(
 ) -> io::Result<u8> {
     match write_warnings(alloc, text.octets(), command.origin()) {
         Ok(lines) => {
+            let lines = text.placed(alloc, lines)?;
             errors.extend_from_slice(lines.as_bytes())?;
             Ok(DONE)
         }
-        Err(fault) => Ok(report_fault_of(
-            alloc,
-            Err(Fault::Zone(fault)),
-            command.zone(),
-            text.shown(),
-            errors,
-        )),
+        Err(fault) => text.report(alloc, command.zone(), fault, errors),
     }
 }
