@@ -283,6 +283,9 @@ def tries_wide(room):
     written(f"{room}/zone", wide_text(3, "\na 1h30 A 192.0.2.1\n"))
     report(server.ask("reload") == (1, "", "error: line 7: M5 UnknownType\n"), "a file that is refused, by its line")
     server.stop()
+    left = [line for line in server.lines if "left out" in line]
+    told = f"{room}/zone: records left out (RRSIG, NSEC, NSEC3, NSEC3PARAM): 1, the first on line 5\n"
+    report(left == [told] * 3, f"how many records are left out, at the start and at both reloads that read a zone: {left}")
     has_caa = "a.x. 300 IN TYPE257 \\# 8 000569737375653b\n"
     report(caa_of(room) == [has_caa], f"the store has the file's zone: {zone_of(room)!r}")
     written(f"{room}/zone", wide_text(2, "a 5m CAA 0 issue ca.example\n"))

@@ -1,12 +1,16 @@
 //! The thread that reads the zone file again while its zone is served.
 use crate::file_report::words_of;
 use crate::includes::Includes;
+use crate::zone_file::tell_left_out;
 use crate::zone_text::ZoneText;
+use commands::Source;
 use dns_engine::SharedVersion;
 use dns_name::Name;
+use log_lines::Level;
 use std::alloc::{AllocError, Global};
 use std::fs::{self, Files};
 use std::io;
+use std::rt::Env;
 use std::sync::{Arc, Wait};
 use update_messages::PrepareFault;
 use worker_jobs::{ReloadOrder, ReloadResult, ReloadSlot, Reloads, file_zone};
@@ -64,7 +68,7 @@ pub fn prepare_reloads(
 
 impl FileReader {
     /// Does what is ordered, until nothing is any more.
-    pub fn run<R: Files + AllocGlobal + Wait>(self, rt: &R) {
+    pub fn run<R: Files + Env + Eprint + AllocGlobal + Wait>(self, rt: &R) {
         let mut read: Option<Zone> = None;
         for _ in rt.forever() {
             let Some(order) = self.slot.wait(rt) else {
@@ -76,7 +80,7 @@ impl FileReader {
     }
 
     /// Does what is ordered. The zone that was read last stays until it is to be dropped.
-    fn obey<R: Files + AllocGlobal + Wait>(
+    fn obey<R: Files + Env + Eprint + AllocGlobal + Wait>(
         &self,
         rt: &R,
         order: ReloadOrder,
@@ -101,7 +105,7 @@ impl FileReader {
 }
 
 /// Reads the file, and makes its update of the zone that is served.
-fn read_anew<R: Files + AllocGlobal>(
+fn read_anew<R: Files + Env + Eprint + AllocGlobal>(
     rt: &R,
     file: &ZoneFile,
     served: &SharedVersion,
@@ -119,8 +123,8 @@ fn read_anew<R: Files + AllocGlobal>(
     made_of(alloc, served, read)
 }
 
-/// The zone of the file's text, with the files that it includes, or why it is refused.
-fn zone_of<R: Files + AllocGlobal>(
+/// The zone of the file's text, with the files that it includes, or why it is refused. Standard error has how many records are left out.
+fn zone_of<R: Files + Env + Eprint + AllocGlobal>(
     rt: &R,
     source: Vec<u8>,
     file: &ZoneFile,
@@ -135,7 +139,11 @@ fn zone_of<R: Files + AllocGlobal>(
         Err(refused) => return Err(words_of(alloc, &refused.fault)),
     };
     match text.zone(alloc, &file.origin) {
-        Ok(zone) => Ok(zone),
+        Ok(zone) => {
+            let (mark, source) = (Level::Notice.mark_for(rt), Source::File(file.path.as_str()));
+            let _ = tell_left_out(rt, mark, source, &text);
+            Ok(zone)
+        }
         Err(fault) => Err(text.words(alloc, fault)),
     }
 }

@@ -102,7 +102,7 @@ fn tell_wide<R: Eprint + AllocGlobal>(
 }
 
 /// Reports on standard error how many records are left out of a text, if there are any.
-fn tell_left_out<R: Eprint + AllocGlobal>(
+pub(crate) fn tell_left_out<R: Eprint + AllocGlobal>(
     rt: &R,
     mark: &str,
     source: Source<'_>,
