@@ -381,3 +381,39 @@ tries serve --wide --listen 127.0.0.1:0 --workers 1 --count 0 --origin x. --stor
 printf '%s\n' 'ns1 A 192.0.2.1' 'a 5 A 192.0.2.2' >"$room/parts/hosts.inc"
 row 0 "serving ZONE; changed the store '$room/wide' to it: serial 1 to 2, 0 records deleted, 1 added" serve --wide --listen 127.0.0.1:0 --workers 1 --count 0 --origin x. --store "$room/wide" --take zone "$room/parts/zone"
 row 0 'a.x. 5 IN A 192.0.2.2' zone "$room/wide"
+
+# the zone in words, which is read back as the zone: the words are those of the RFCs above, and of named-compilezone but for capitals and quotes
+words='x. 5 IN SOA a.x. b.x. 1 2 3 4 5
+x. 5 IN NS a.x.
+a.x. 5 IN HINFO "INTEL-386" "UNIX"
+b.x. 5 IN CAA 0 issue "letsencrypt.org"
+c.x. 5 IN NAPTR 10 20 "u" "E2U+sip" "!^.*$!sip:info@example.com!" .
+d.x. 5 IN URI 10 1 "ftp://ftp1.example.com/public"
+e.x. 5 IN DS 60485 5 1 2bb183af5f22588179a53b0a98631fad1a292118
+f.x. 5 IN DHCID AAIBY2/AuCccgoJbsaxcQc9TUapptP69lOjxfNuVAA2kjEA=
+g.x. 5 IN CERT 1 0 8 AQID
+h.x. 5 IN OPENPGPKEY AQIDBA==
+i.x. 5 IN RP A.x. B.
+j.x. 5 IN DNAME Example.NET.
+k.x. 5 IN EUI48 00-00-5e-00-53-2a
+l.x. 5 IN HTTPS \# 21 0001000001000602683202683300040004c0000203
+m.x. 5 IN TLSA 3 1 1 0123456789abcdef
+n.x. 5 IN LOC \# 16 0033161389172dd070be15f000988d20
+o.x. 5 IN CAA \# 3 000000
+p.x. 5 IN TYPE65280 \# 2 0102
+q.x. 5 IN SPF "v=spf1 -all" "more \"quoted\" \\ \007"
+r.x. 5 IN MX 10 a.x.'
+input=$words$'\n'
+prints "$words" check --wide --words -
+tries check --wide -
+input=$said
+printf '%s' "$said" >"$room/plain"
+prints "$words" check --words -
+prints "${input%$'\n'}" check -
+rm -rf "$room/wide"
+mkdir "$room/wide"
+row 0 "created the store '$room/wide' from ZONE" serve --listen 127.0.0.1:0 --workers 1 --count 0 --store "$room/wide" "$room/plain"
+input=
+prints "$words" zone --words "$room/wide"
+input=$'x. 5 IN SOA a.x. b.x. 1 2 3 4 5\n'
+refuses 1 'line 0: M11 Apex' check --words -

@@ -40,7 +40,7 @@ pub use may::{run_may, tell_outside};
 pub use reload::{FileReader, prepare_reloads};
 pub use started_zone::{ServedZone, StartedStore, StartedZone, ZoneStore};
 pub use stored::{run_journal, run_stored};
-pub use streams::run_on_streams;
+pub use streams::{Ways, run_on_streams};
 pub use writer::{Entries, Entry, start_entries};
 pub use zone_file::{read_text_for, text_for};
 pub use zone_text::ZoneText;

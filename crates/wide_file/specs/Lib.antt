@@ -8,3 +8,4 @@ pub mod PlainText
 pub mod Private
 pub mod WideRecords
 pub mod WideZone
+pub mod WordsText

@@ -16,6 +16,7 @@ mod record_entry;
 mod records;
 mod spelling;
 mod wide_fault;
+mod words_text;
 
 pub use file_path::{FilePath, directory};
 pub use included::{IncludedFile, included_paths};
@@ -27,3 +28,4 @@ pub use record_entry::{IncludeEntry, LeftOut, WideEntry};
 pub use records::WideRecords;
 pub use spelling::{max_depth, plain_text, read_wide_zone};
 pub use wide_fault::{WideCause, WideFault};
+pub use words_text::in_words;
