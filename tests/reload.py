@@ -2,7 +2,7 @@
 """Tries reloads of a zone's file while its zone is served (`dnsd control PATH reload`). A reload is one update: the zone before or the zone of the file, at one version,
 with one frame of the journal and one NOTIFY, whatever its size; secondaries get it by IXFR. Beside queries, transfers, updates and reloads, each whole transfer is one of
 the zones that were deployed, with the updates that were answered since, and never a part. Killed at random moments of reloads, the store has the zone before or that of
-the file. With --wide it is read as at the start. A second reload meanwhile, a file that is no zone and another apex are refused, and change nothing; the socket is its owner's alone, and a client that says nothing
+the file. With --wide it is read as at the start, with the files that it includes. A second reload meanwhile, a file that is no zone and another apex are refused, and change nothing; the socket is its owner's alone, and a client that says nothing
 stops nothing. Usage: [DNSD=PROGRAM] tests/reload.py [KILLS [RECORDS [HOSTS]]], by default 20 kills, 100,000 records in the one large change, and 2,000 hosts in the
 zones that are reloaded beside queries, by the program crates/dnsd/out/dnsd; a program compiled with checks is slower, and needs fewer. It listens on 127.0.0.1 alone. Its status is 1 where something failed."""
 import os
@@ -283,6 +283,9 @@ def tries_wide(room):
     written(f"{room}/zone", wide_text(3, "\na 1h30 A 192.0.2.1\n"))
     report(server.ask("reload") == (1, "", "error: line 7: M5 UnknownType\n"), "a file that is refused, by its line")
     server.stop()
+    left = [line for line in server.lines if "left out" in line]
+    told = f"{room}/zone: records left out (RRSIG, NSEC, NSEC3, NSEC3PARAM): 1, the first on line 5\n"
+    report(left == [told] * 3, f"how many records are left out, at the start and at both reloads that read a zone: {left}")
     has_caa = "a.x. 300 IN TYPE257 \\# 8 000569737375653b\n"
     report(caa_of(room) == [has_caa], f"the store has the file's zone: {zone_of(room)!r}")
     written(f"{room}/zone", wide_text(2, "a 5m CAA 0 issue ca.example\n"))
@@ -293,6 +296,25 @@ def tries_wide(room):
     server.stop()
     report(not any("ZONE" in line for line in server.lines), f"the next start of the same file finds its store: {server.lines}")
     report(caa_of(room) == ["a.x. 300 IN TYPE257 \\# 17 0005697373756563612e6578616d706c65\n"], f"with its zone: {zone_of(room)!r}")
+
+
+def tries_included(room):
+    """With --wide the files that the zone file includes are read again at a reload, and a fault in one is told by its path and line."""
+    written(f"{room}/zone", wide_text(1, "$INCLUDE hosts.inc\n"))
+    written(f"{room}/hosts.inc", "a A 192.0.2.2\n")
+    server = Server(room, "--wide", "--origin", "x.", "--store", f"{room}/store")
+    report(server.ask("reload") == (0, "nothing to change, serial 1\n", ""), "--wide: a reload of the same files changes nothing")
+    written(f"{room}/hosts.inc", "a A 192.0.2.2\nb A 192.0.2.3\n")
+    written(f"{room}/zone", wide_text(2, "$INCLUDE hosts.inc\n"))
+    report(server.ask("reload") == (0, "serial 1 to 2, 0 records deleted, 1 added\n", ""), "a reload of a file that is included")
+    written(f"{room}/hosts.inc", "a A 192.0.2.2\n\nb 1h30 A 192.0.2.3\n")
+    report(server.ask("reload") == (1, "", "error: hosts.inc: line 3: M5 UnknownType\n"), "a file that is refused, by its path and line")
+    os.remove(f"{room}/hosts.inc")
+    report(server.ask("reload") == (1, "", "error: line 6: M16 Include\n"), "a file that isn't there, by the line that includes it")
+    written(f"{room}/hosts.inc", "a A 192.0.2.2\n@ SOA ns admin 9 1 1 1 1\n")
+    report(server.ask("reload") == (1, "", "error: hosts.inc: line 2: M11 Apex\n"), "a second SOA there")
+    server.stop()
+    report("b.x. 3600 IN A 192.0.2.3" in zone_of(room), f"the store has the files' zone: {zone_of(room)!r}")
 
 
 def caa_of(room):
@@ -413,6 +435,7 @@ def main():
     tried = (
         tries_commands,
         tries_wide,
+        tries_included,
         lambda room: tries_large(room, records // 2),
         lambda room: tries_beside(room, 15, hosts),
         lambda room: tries_kills(room, kills, hosts * 5 // 2),

@@ -105,7 +105,9 @@ x. LOC 1 N 0 E 0m 1m 1m 1m 1m => M6 BadData
 x. LOC 1 N 0 E "0m" => M6 BadData
 x. APL 1:192.0.2.0/24 => M5 UnknownType
 x. AAA 192.0.2.1 => M5 UnknownType
-$INCLUDE other => M1 Directive
+$INCLUDE other => M16 Include
+$INCLUDE => M1 Directive
+$INCLUDE a b c => M6 BadData
 $GENERATE 1-3 a$ A 192.0.2.$ => M1 Directive
 end
 
@@ -309,3 +311,109 @@ row 0 'ignoring ZONE' serve --wide --listen 127.0.0.1:0 --workers 1 --count 0 --
 rm -rf "$room/wide"
 mkdir "$room/wide"
 row 1 'line 11: M5 UnknownType' serve --wide --listen 127.0.0.1:0 --workers 1 --count 0 --origin x. --store "$room/wide" --take store "$room/zone"
+
+# files that are included (RFC 1035, 5.1): names are relative to the origin after the path, or to that in force; after a file origin, owner and TTLs are as
+# before it. A path is relative to the directory of the file that names it. By hand; named-compilezone has the same zone where each file sets no $TTL
+rm -rf "$room/parts"
+mkdir -p "$room/parts/sub/deep"
+printf '%s\n' '$TTL 1h' '@ SOA ns1 admin 1 2h 15m 2W 5m' ' NS ns1' '$INCLUDE hosts.inc' ' TXT "the apex"' '$include "sub/one.inc" sub ; with its own origin' 'www CNAME ns1' >"$room/parts/zone"
+printf '%s\n' 'ns1 A 192.0.2.1' '$ORIGIN host' '$TTL 5m' 'a A 192.0.2.2' >"$room/parts/hosts.inc"
+printf '%s\n' '' '@ TXT "one"' '$INCLUDE deep/two.inc' 'c RRSIG A 8 3 3600' 'c TXT "c"' >"$room/parts/sub/one.inc"
+printf '\xef\xbb\xbf%s\n%s\n' ' TXT "the same owner"' 'b 7 TXT "two"' >"$room/parts/sub/deep/two.inc"
+input=
+right='x. 3600 IN SOA ns1.x. admin.x. 1 7200 900 1209600 300
+x. 3600 IN NS ns1.x.
+x. 3600 IN TXT "the apex"
+a.host.x. 300 IN A 192.0.2.2
+ns1.x. 3600 IN A 192.0.2.1
+sub.x. 3600 IN TXT "one"
+sub.x. 3600 IN TXT "the same owner"
+b.sub.x. 7 IN TXT "two"
+c.sub.x. 3600 IN TXT "c"
+www.x. 3600 IN CNAME ns1.x.'
+tries check --wide --origin x. "$room/parts/zone"
+[[ $got == 0 && $said == "$right"$'\n' && $told == "$room/parts/zone: ${left}1, the first on line 4 of sub/one.inc"$'\n' ]] || differs "$right" check --wide --origin x. "$room/parts/zone"
+# without the option it is refused as ever, and so is it on standard input
+row 1 'line 1: M3 Number' check --origin x. "$room/parts/zone"
+input=$'$TTL 1\n@ SOA a b 1 2 3 4 5\n@ NS a\n$INCLUDE hosts.inc\n'
+refuses 1 'line 4: M16 Include' check --wide --origin x. -
+
+# faults, and warnings, have the file and its line
+input=
+printf '%s\n' 'ns1 A 192.0.2.1' '' 'a MX 1h b' >"$room/parts/hosts.inc"
+refuses 1 'hosts.inc: line 3: M3 Number' check --wide --origin x. "$room/parts/zone"
+printf '%s\n' 'ns1 A 192.0.2.1' '' '@ SOA a b 2 3 4 5 6' >"$room/parts/hosts.inc"
+tries check --wide --origin x. "$room/parts/zone"
+[[ $got == 1 && $told == *$'hosts.inc: line 3: M11 Apex\nhosts.inc:3: '* ]] || differs 'the file and its line' check --wide --origin x. "$room/parts/zone"
+printf '%s\n' 'ns1 A 192.0.2.1' 'www TXT "a"' >"$room/parts/hosts.inc"
+row 1 $'line 7: M12 Conflict\n' check --wide --origin x. "$room/parts/zone"
+printf '%s\n' 'ns1 A 192.0.2.1' '' 'mail MX 10 www' >"$room/parts/hosts.inc"
+row 0 $'\nhosts.inc: line 3: warning: MX www.x. is an alias\n' check --wide --warn --origin x. "$room/parts/zone"
+
+# a file that isn't there; paths that lead out of the directory, or are none; one that includes itself
+for line in '$INCLUDE nowhere' "\$INCLUDE $room/parts/hosts.inc" '$INCLUDE ../parts/hosts.inc' '$INCLUDE sub/../hosts.inc' '$INCLUDE ""' '$INCLUDE sub'; do
+    printf '%s\n' '$TTL 5' "$line" >"$room/parts/other"
+    refuses 1 'line 2: M16 Include' check --wide --origin x. "$room/parts/other"
+done
+printf '%s\n' '' '$INCLUDE other' >"$room/parts/other"
+refuses 1 'other: line 2: M16 Include' check --wide --origin x. "$room/parts/other"
+printf '%s\n' '$INCLUDE sub/..a/...' 'x. 5 TXT "a"' >"$room/parts/other"
+mkdir -p "$room/parts/sub/..a"
+printf '%s\n' 'x. 5 SOA a. b. 1 2 3 4 5' 'x. NS a.' >"$room/parts/sub/..a/..."
+prints $'x. 5 IN SOA a. b. 1 2 3 4 5\nx. 5 IN NS a.\nx. 5 IN TXT "a"' check --wide "$room/parts/other"
+
+# 20 files deep is read, and 21 isn't
+for n in $(seq 0 20); do printf '%s\n' "\$INCLUDE $((n + 1))" >"$room/parts/$n"; done
+printf '%s\n' 'x. 5 SOA a. b. 1 2 3 4 5' 'x. NS a.' >"$room/parts/21"
+refuses 1 '20: line 1: M16 Include' check --wide "$room/parts/0"
+prints $'x. 5 IN SOA a. b. 1 2 3 4 5\nx. 5 IN NS a.' check --wide "$room/parts/1"
+
+# change, and a store: it keeps the text with what is included, so that a change of a file that is included is one of the zone
+printf '%s\n' '$TTL 1h' '@ SOA ns1 admin 1 2 3 4 5' ' NS ns1' '$INCLUDE hosts.inc' >"$room/parts/zone"
+printf '%s\n' '$TTL 1h' '@ SOA ns1 admin 1 2 3 4 5' ' NS ns1' 'ns1 A 192.0.2.1' >"$room/parts/next"
+printf '%s\n' 'ns1 A 192.0.2.1' >"$room/parts/hosts.inc"
+prints '' change --wide --origin x. "$room/parts/zone" "$room/parts/next"
+rm -rf "$room/wide"
+mkdir "$room/wide"
+row 0 "created the store '$room/wide' from ZONE" serve --wide --listen 127.0.0.1:0 --workers 1 --count 0 --origin x. --store "$room/wide" "$room/parts/zone"
+tries serve --wide --listen 127.0.0.1:0 --workers 1 --count 0 --origin x. --store "$room/wide" "$room/parts/zone"
+[[ $got == 0 && $told != *ignoring* && $told == *'x. with serial 1, 3 records'* ]] || differs 'the store of the same files' serve --wide --store
+printf '%s\n' 'ns1 A 192.0.2.1' 'a 5 A 192.0.2.2' >"$room/parts/hosts.inc"
+row 0 "serving ZONE; changed the store '$room/wide' to it: serial 1 to 2, 0 records deleted, 1 added" serve --wide --listen 127.0.0.1:0 --workers 1 --count 0 --origin x. --store "$room/wide" --take zone "$room/parts/zone"
+row 0 'a.x. 5 IN A 192.0.2.2' zone "$room/wide"
+
+# the zone in words, which is read back as the zone: the words are those of the RFCs above, and of named-compilezone but for capitals and quotes
+words='x. 5 IN SOA a.x. b.x. 1 2 3 4 5
+x. 5 IN NS a.x.
+a.x. 5 IN HINFO "INTEL-386" "UNIX"
+b.x. 5 IN CAA 0 issue "letsencrypt.org"
+c.x. 5 IN NAPTR 10 20 "u" "E2U+sip" "!^.*$!sip:info@example.com!" .
+d.x. 5 IN URI 10 1 "ftp://ftp1.example.com/public"
+e.x. 5 IN DS 60485 5 1 2bb183af5f22588179a53b0a98631fad1a292118
+f.x. 5 IN DHCID AAIBY2/AuCccgoJbsaxcQc9TUapptP69lOjxfNuVAA2kjEA=
+g.x. 5 IN CERT 1 0 8 AQID
+h.x. 5 IN OPENPGPKEY AQIDBA==
+i.x. 5 IN RP A.x. B.
+j.x. 5 IN DNAME Example.NET.
+k.x. 5 IN EUI48 00-00-5e-00-53-2a
+l.x. 5 IN HTTPS \# 21 0001000001000602683202683300040004c0000203
+m.x. 5 IN TLSA 3 1 1 0123456789abcdef
+n.x. 5 IN LOC \# 16 0033161389172dd070be15f000988d20
+o.x. 5 IN CAA \# 3 000000
+p.x. 5 IN TYPE65280 \# 2 0102
+q.x. 5 IN SPF "v=spf1 -all" "more \"quoted\" \\ \007"
+r.x. 5 IN MX 10 a.x.'
+input=$words$'\n'
+prints "$words" check --wide --words -
+tries check --wide -
+input=$said
+printf '%s' "$said" >"$room/plain"
+prints "$words" check --words -
+prints "${input%$'\n'}" check -
+rm -rf "$room/wide"
+mkdir "$room/wide"
+row 0 "created the store '$room/wide' from ZONE" serve --listen 127.0.0.1:0 --workers 1 --count 0 --store "$room/wide" "$room/plain"
+input=
+prints "$words" zone --words "$room/wide"
+input=$'x. 5 IN SOA a.x. b.x. 1 2 3 4 5\n'
+refuses 1 'line 0: M11 Apex' check --words -

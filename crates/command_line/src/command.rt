@@ -28,6 +28,8 @@ pub enum Task<'a> {
         has_warnings: bool,
         /// Whether its zone's text is read as other servers read zone files.
         is_wide: bool,
+        /// Whether the zone is printed in words.
+        in_words: bool,
     },
     /// Serves a zone on sockets.
     Serve(Serve<'a>),
@@ -53,6 +55,7 @@ impl<'a> Drop for Task<'a> {
                 has_origin: _,
                 has_warnings: _,
                 is_wide: _,
+                in_words: _,
             } => {}
             Task::Serve(_) => {}
             Task::Stored(_) => {}
@@ -136,6 +139,8 @@ pub struct Stored<'a> {
     pub dir: &'a str,
     /// How much of its journal to use.
     pub part: Part,
+    /// Whether the zone is printed in words.
+    pub in_words: bool,
 }
 
 /// The task that these arguments request. The first one is the program's name.
@@ -187,6 +192,7 @@ fn task_of<'a>(
         has_origin: found.get_str(ORIGIN).is_some(),
         has_warnings: name == "check" && found.get_flag(WARN),
         is_wide: name == "check" && found.get_flag(WIDE),
+        in_words: name == "check" && found.get_flag(WORDS),
     })
 }
 
@@ -251,6 +257,7 @@ fn stored_of<'a>(found: &ArgMatches<'a>) -> Stored<'a> {
     Stored {
         dir: dir_of(found),
         part,
+        in_words: found.get_flag(WORDS),
     }
 }
 
@@ -316,6 +323,9 @@ pub const WARN: &str = "warn";
 
 /// The option for zone files as other servers take them.
 pub const WIDE: &str = "wide";
+
+/// The option for a zone in words.
+pub const WORDS: &str = "words";
 
 /// The option for the update's message.
 pub const HEX: &str = "hex";

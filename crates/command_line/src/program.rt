@@ -1,7 +1,7 @@
 //! The program's commands, and the arguments of each.
 use crate::command::{
     ADDRESS, BEFORE_FAULT, COMMAND_WORD, DIR, DRY_RUN, HEX, KEEP, NEW, OLD, ORIGIN, PATH, REQUEST,
-    SERVER, TCP, WARN, WIDE, WINDOW, ZONE,
+    SERVER, TCP, WARN, WIDE, WINDOW, WORDS, ZONE,
 };
 use crate::may::{ALLOW, KEY, MAY};
 use crate::options::{
@@ -77,7 +77,14 @@ const ZONE_ROW: WordRow = WordRow {
 const WIDE_ROW: WordRow = WordRow {
     name: WIDE,
     form: Form::Flag,
-    help: "read zone files as other servers do: times with units, such as 1h30m, and words of more types, such as CAA; leave out RRSIG, NSEC, NSEC3 and NSEC3PARAM records",
+    help: "read zone files as other servers do: times with units, such as 1h30m, $INCLUDE, and words of more types, such as CAA; leave out RRSIG, NSEC, NSEC3 and NSEC3PARAM records",
+};
+
+/// The option for a zone in words.
+const WORDS_ROW: WordRow = WordRow {
+    name: WORDS,
+    form: Form::Flag,
+    help: "print types and data in words, such as CAA, as --wide reads them",
 };
 
 /// The argument for a store's directory.
@@ -176,6 +183,7 @@ const ANSWER_WORDS: &[WordRow] = &[
 const CHECK_WORDS: &[WordRow] = &[
     ORIGIN_ROW,
     WIDE_ROW,
+    WORDS_ROW,
     ZONE_ROW,
     WordRow {
         name: WARN,
@@ -264,6 +272,7 @@ const STORED_WORDS: &[WordRow] = &[
         form: Form::Flag,
         help: "print the zone as it was before the damaged updates",
     },
+    WORDS_ROW,
     DIR_ROW,
 ];
 

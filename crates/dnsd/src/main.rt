@@ -19,7 +19,7 @@ pub mod warnings;
 use command_line::{Task, parse_words, tell_fault};
 use commands::{Command, FAILED};
 use dnsd_setup::{
-    FileReader, ROOT_APEX, run_change, run_control, run_deploy, run_journal, run_may,
+    FileReader, ROOT_APEX, Ways, run_change, run_control, run_deploy, run_journal, run_may,
     run_on_streams, run_stored,
 };
 use log_lines::Level;
@@ -111,7 +111,15 @@ fn run_task<
             has_origin,
             has_warnings,
             is_wide,
-        } => run_command(rt, command, *has_origin, *has_warnings, *is_wide),
+            in_words,
+        } => {
+            let ways = Ways {
+                has_warnings: *has_warnings,
+                is_wide: *is_wide,
+                in_words: *in_words,
+            };
+            run_command(rt, command, *has_origin, ways)
+        }
         Task::Serve(serve) => run_serve(rt, serve, start),
         Task::Stored(stored) => run_stored(rt, *stored),
         Task::Journal(dir) => run_journal(rt, dir),
@@ -128,12 +136,11 @@ fn run_command<R: Files + Print + Eprint + Input + AllocGlobal>(
     rt: &R,
     command: &Command<'_>,
     has_origin: bool,
-    has_warnings: bool,
-    is_wide: bool,
+    ways: Ways,
 ) -> io::Result<u8> {
     let alloc = rt.alloc();
     let mut errors = Vec::new(alloc);
-    let ended = run_on_streams(rt, command, has_warnings, is_wide, &mut errors)?;
+    let ended = run_on_streams(rt, command, ways, &mut errors)?;
     rt.eprint(String::from_utf8_lossy(alloc, errors.as_slice())?)?;
     if ended.at_root && !has_origin && is_warned_of(command) {
         eprintln!(rt; "{ROOT_APEX}")?;

@@ -3,7 +3,7 @@ use crate::zone_file::zone_text_from;
 use crate::zone_text::ZoneText;
 use change_command::{write_change, write_message};
 use command_line::Change;
-use commands::{DONE, FAILED, Fault, REFUSED, Source, report_fault_of};
+use commands::{DONE, FAILED, REFUSED, Source};
 use dns_name::Name;
 use std::alloc::Global;
 use std::io::{self, BufReader};
@@ -56,8 +56,9 @@ fn zone_from(
         Ok(zone) => Ok(zone),
         Err(fault) => {
             let mut errors = Vec::new(alloc);
-            let fault = Err(Fault::Zone(fault));
-            let status = report_fault_of(alloc, fault, source, text.shown(), &mut errors);
+            let status = text
+                .report(alloc, source, fault, &mut errors)
+                .unwrap_or(FAILED);
             Err(RefusedText { status, errors })
         }
     }

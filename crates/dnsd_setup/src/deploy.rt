@@ -126,8 +126,7 @@ fn next_zone<R: Files + Eprint + Input + AllocGlobal>(
         Ok(zone) => Ok(Ok(zone)),
         Err(fault) => {
             let mut errors = Vec::new(alloc);
-            let fault = Err(Fault::Zone(fault));
-            let status = report_fault_of(alloc, fault, deploy.zone, text.shown(), &mut errors);
+            let status = text.report(alloc, deploy.zone, fault, &mut errors)?;
             rt.eprint(String::from_utf8_lossy(alloc, errors.as_slice())?)?;
             Ok(Err(status))
         }

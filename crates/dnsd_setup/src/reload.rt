@@ -1,13 +1,17 @@
 //! The thread that reads the zone file again while its zone is served.
+use crate::file_report::words_of;
+use crate::includes::Includes;
+use crate::zone_file::tell_left_out;
 use crate::zone_text::ZoneText;
-use commands::Fault;
+use commands::Source;
 use dns_engine::SharedVersion;
 use dns_name::Name;
-use master_file::FileFault;
+use log_lines::Level;
 use server_control::{ReloadOrder, ReloadResult, ReloadSlot, Reloads, file_zone};
 use std::alloc::{AllocError, Global};
 use std::fs::{self, Files};
 use std::io;
+use std::rt::Env;
 use std::sync::{Arc, Wait};
 use update_messages::PrepareFault;
 use zone_tree::Zone;
@@ -64,7 +68,7 @@ pub fn prepare_reloads(
 
 impl FileReader {
     /// Does what is ordered, until nothing is any more.
-    pub fn run<R: Files + AllocGlobal + Wait>(self, rt: &R) {
+    pub fn run<R: Files + Env + Eprint + AllocGlobal + Wait>(self, rt: &R) {
         let mut read: Option<Zone> = None;
         for _ in rt.forever() {
             let Some(order) = self.slot.wait(rt) else {
@@ -76,7 +80,7 @@ impl FileReader {
     }
 
     /// Does what is ordered. The zone that was read last stays until it is to be dropped.
-    fn obey<R: Files + AllocGlobal + Wait>(
+    fn obey<R: Files + Env + Eprint + AllocGlobal + Wait>(
         &self,
         rt: &R,
         order: ReloadOrder,
@@ -101,7 +105,7 @@ impl FileReader {
 }
 
 /// Reads the file, and makes its update of the zone that is served.
-fn read_anew<R: Files + AllocGlobal>(
+fn read_anew<R: Files + Env + Eprint + AllocGlobal>(
     rt: &R,
     file: &ZoneFile,
     served: &SharedVersion,
@@ -112,18 +116,48 @@ fn read_anew<R: Files + AllocGlobal>(
         Ok(source) => source,
         Err(fault) => return Err(unread(alloc, &file.path, &fault)),
     };
-    match zone_of(alloc, source, file) {
+    match zone_of(rt, source, file) {
         Ok(zone) => *read = Some(zone),
-        Err(fault) => return Err(no_zone(alloc, fault)),
+        Err(reason) => return Err(reason.unwrap_or(String::new(alloc))),
     }
     made_of(alloc, served, read)
 }
 
-/// The zone of the file's text.
-fn zone_of(alloc: Global, source: Vec<u8>, file: &ZoneFile) -> Result<Zone, FileFault> {
-    match ZoneText::of(alloc, source, &file.origin, file.is_wide) {
-        Ok(text) => text.zone(alloc, &file.origin),
-        Err(refused) => Err(refused.fault),
+/// The zone of the file's text, with the files that it includes, or why it is refused. Standard error has how many records are left out.
+fn zone_of<R: Files + Env + Eprint + AllocGlobal>(
+    rt: &R,
+    source: Vec<u8>,
+    file: &ZoneFile,
+) -> Result<Zone, Result<String, AllocError>> {
+    let alloc = rt.alloc();
+    let includes = match includes_of(rt, file, &source) {
+        Ok(includes) => includes,
+        Err(fault) => return Err(Err(fault)),
+    };
+    let text = match ZoneText::of(alloc, source, includes, &file.origin, file.is_wide) {
+        Ok(text) => text,
+        Err(refused) => return Err(words_of(alloc, &refused.fault)),
+    };
+    match text.zone(alloc, &file.origin) {
+        Ok(zone) => {
+            let (mark, source) = (Level::Notice.mark_for(rt), Source::File(file.path.as_str()));
+            let _ = tell_left_out(rt, mark, source, &text);
+            Ok(zone)
+        }
+        Err(fault) => Err(text.words(alloc, fault)),
+    }
+}
+
+/// The files that the file includes.
+fn includes_of<R: Files + AllocGlobal>(
+    rt: &R,
+    file: &ZoneFile,
+    source: &[u8],
+) -> Result<Includes, AllocError> {
+    if file.is_wide {
+        Includes::read(rt, file.path.as_str(), source)
+    } else {
+        Ok(Includes::none(rt.alloc()))
     }
 }
 
@@ -143,12 +177,6 @@ fn unread(alloc: Global, path: &str, fault: &io::Error) -> String {
     format!(in alloc; "the zone's file '{path}' can't be read: {fault}").unwrap_or(String::new(
         alloc,
     ))
-}
-
-/// Why a file's text is no zone.
-fn no_zone(alloc: Global, fault: FileFault) -> String {
-    let fault = Fault::Zone(fault);
-    format!(in alloc; "{fault}").unwrap_or(String::new(alloc))
 }
 
 /// Why no update is made of a file's zone, in words.

@@ -1,7 +1,9 @@
 //! Printing the zone of a store, and what its updates changed.
-use command_line::{PrintFault, PrintedFault, Stored, print_store};
+use crate::streams::write_in_words;
+use command_line::{Part, PrintFault, PrintedFault, Stored, print_store};
 use commands::{DONE, FAILED, REFUSED};
-use std::io::{self, BufWriter};
+use std::alloc::Global;
+use std::io::{self, BufWriter, Write};
 use std::rt::Files;
 use store_files::read_store;
 use store_recovery::StartFault;
@@ -18,11 +20,30 @@ pub fn run_stored<R: Files + Print + Eprint + AllocGlobal>(
         return Ok(FAILED);
     };
     let mut writer = BufWriter::new(alloc, io::writer(rt))?;
-    match print_store(alloc, &text, &journal, stored.part, &mut writer) {
+    let printed = if stored.in_words {
+        print_in_words(alloc, &text, &journal, stored.part, &mut writer)
+    } else {
+        print_store(alloc, &text, &journal, stored.part, &mut writer)
+    };
+    match printed {
         Ok(()) => Ok(DONE),
         Err(PrintFault::Device(fault)) => Err(fault),
         Err(PrintFault::NoStart(fault)) => tell_no_start(rt, dir, fault),
     }
+}
+
+/// Prints the zone of a store in words.
+fn print_in_words<O: Write + Drop>(
+    alloc: Global,
+    text: &[u8],
+    journal: &[u8],
+    part: Part,
+    writer: &mut BufWriter<O>,
+) -> Result<(), PrintFault> {
+    let mut lines = BufWriter::new(alloc, Vec::new(alloc))?;
+    print_store(alloc, text, journal, part, &mut lines)?;
+    write_in_words(alloc, lines.get_ref().as_slice(), writer)?;
+    Ok(())
 }
 
 /// Prints on standard output what the updates of a store changed, and returns the program's status. Errors go to standard error.

@@ -4,25 +4,37 @@ use crate::zone_text::ZoneText;
 use commands::{
     Command, DONE, Ended, Fault, Outcome, Source, report_fault_of, run_text, run_with_zone,
 };
-use std::alloc::Global;
+use master_file::FileFault;
+use std::alloc::{AllocError, Global};
 use std::io::{self, BufRead, BufReader, BufWriter, Write};
 use std::rt::Files;
+use wide_file::in_words;
 use zone_warnings::write_warnings;
 
+/// How a zone's text is read, and what is printed of it.
+#[derive(Clone, Copy, Debug, PartialEq, Eq)]
+pub struct Ways {
+    /// Whether warnings of it are requested.
+    pub has_warnings: bool,
+    /// Whether it is read as other servers read zone files.
+    pub is_wide: bool,
+    /// Whether the zone is printed in words.
+    pub in_words: bool,
+}
+
 /// Runs a command over standard input and output. Its error messages are appended to `errors`, and where it succeeds and warnings are requested,
-/// those of its zone's text. `is_wide` is whether that is read as other servers read zone files.
+/// those of its zone's text.
 pub fn run_on_streams<R: Files + Print + Eprint + Input + AllocGlobal>(
     rt: &R,
     command: &Command<'_>,
-    has_warnings: bool,
-    is_wide: bool,
+    ways: Ways,
     errors: &mut Vec<u8>,
 ) -> io::Result<Ended> {
     let alloc = rt.alloc();
     let mut reader = BufReader::new(alloc, rt.reader())?;
     let mut writer = BufWriter::new(alloc, io::writer(rt))?;
     match command.zone() {
-        Source::Input if !has_warnings && !is_wide => Ok(run_text(
+        Source::Input if is_plain(ways) => Ok(run_text(
             alloc,
             command,
             &mut reader,
@@ -30,12 +42,12 @@ pub fn run_on_streams<R: Files + Print + Eprint + Input + AllocGlobal>(
             errors,
         )),
         source => {
-            match zone_text_from(rt, source, command.origin(), is_wide, &mut reader)? {
+            match zone_text_from(rt, source, command.origin(), ways.is_wide, &mut reader)? {
                 Ok(text) => run_over_text(
                     alloc,
                     command,
                     &text,
-                    has_warnings,
+                    ways,
                     &mut reader,
                     &mut writer,
                     errors,
@@ -50,12 +62,54 @@ pub fn run_on_streams<R: Files + Print + Eprint + Input + AllocGlobal>(
     }
 }
 
+/// What is wrong with the zone's text, where a command failed for that.
+fn zone_fault(done: &Result<(), Fault>) -> Option<FileFault> {
+    match done {
+        Err(Fault::Zone(fault)) => Some(*fault),
+        _ => None,
+    }
+}
+
+/// Whether a text is read as it is, and nothing is printed beside the command's own lines.
+fn is_plain(ways: Ways) -> bool {
+    !ways.has_warnings && !ways.is_wide && !ways.in_words
+}
+
+/// Runs a command that prints a zone's text, with the zone in words to `output`.
+fn run_in_words<I: BufRead, O: Write + Drop>(
+    alloc: Global,
+    command: &Command<'_>,
+    text: &[u8],
+    input: &mut I,
+    output: &mut BufWriter<O>,
+) -> io::Result<Outcome> {
+    let mut lines = BufWriter::new(alloc, Vec::new(alloc))?;
+    let outcome = run_with_zone(alloc, command, text, input, &mut lines);
+    if outcome.done.is_ok() {
+        write_in_words(alloc, lines.get_ref().as_slice(), output)?;
+    }
+    Ok(outcome)
+}
+
+/// Writes a zone's canonical text in words. An error is an I/O error or lack of memory.
+pub(crate) fn write_in_words<O: Write + Drop>(
+    alloc: Global,
+    text: &[u8],
+    output: &mut BufWriter<O>,
+) -> io::Result<()> {
+    let Ok(words) = in_words(alloc, text) else {
+        return Err(io::Error::from(AllocError));
+    };
+    write!(output, "{words}")?;
+    output.flush()
+}
+
 /// Runs a command over the zone of a text, with requests from `input` and replies to `output`.
 fn run_over_text<I: BufRead, O: Write + Drop>(
     alloc: Global,
     command: &Command<'_>,
     text: &ZoneText,
-    has_warnings: bool,
+    ways: Ways,
     input: &mut I,
     output: &mut BufWriter<O>,
     errors: &mut Vec<u8>,
@@ -64,9 +118,16 @@ fn run_over_text<I: BufRead, O: Write + Drop>(
         done,
         at_root,
         large,
-    } = run_with_zone(alloc, command, text.octets(), input, output);
-    let mut status = report_fault_of(alloc, done, command.zone(), text.shown(), errors);
-    if has_warnings && status == DONE {
+    } = if ways.in_words {
+        run_in_words(alloc, command, text.octets(), input, output)?
+    } else {
+        run_with_zone(alloc, command, text.octets(), input, output)
+    };
+    let mut status = match zone_fault(&done) {
+        Some(fault) => text.report(alloc, command.zone(), fault, errors)?,
+        None => report_fault_of(alloc, done, command.zone(), &[], errors),
+    };
+    if ways.has_warnings && status == DONE {
         status = tell_warnings(alloc, command, text, errors)?;
     }
     Ok(Ended {
@@ -85,15 +146,10 @@ fn tell_warnings(
 ) -> io::Result<u8> {
     match write_warnings(alloc, text.octets(), command.origin()) {
         Ok(lines) => {
+            let lines = text.placed(alloc, lines)?;
             errors.extend_from_slice(lines.as_bytes())?;
             Ok(DONE)
         }
-        Err(fault) => Ok(report_fault_of(
-            alloc,
-            Err(Fault::Zone(fault)),
-            command.zone(),
-            text.shown(),
-            errors,
-        )),
+        Err(fault) => text.report(alloc, command.zone(), fault, errors),
     }
 }

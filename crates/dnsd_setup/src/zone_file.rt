@@ -2,10 +2,12 @@
 ghost use Rattle.std.specs.Prelude.{IfOk};
 ghost use Rattle.dnsd_setup.specs.Starts.{CanStart};
 
+use crate::file_report::{left_out_in, report_file};
+use crate::includes::Includes;
 use crate::started_zone::StartedZone;
-use crate::zone_text::ZoneText;
+use crate::zone_text::{RefusedFile, ZoneText};
 use command_line::Serve;
-use commands::{FAILED, Fault, Source, read_zone_text, report_fault, report_wide_fault};
+use commands::{FAILED, Source, read_zone_text};
 use dns_name::Name;
 use log_lines::Level;
 use master_file::{Cause, FileFault};
@@ -13,6 +15,7 @@ use std::io::{BufRead, BufReader};
 use std::rt::{Env, Files};
 use std::{fs, io};
 use store_recovery::Take;
+use wide_file::WideCause;
 
 /// The text in a zone's file. None if it cannot be read; standard error then has the reason.
 pub fn read_zone_file<R: Files + Eprint + AllocGlobal>(
@@ -52,16 +55,26 @@ pub(crate) fn zone_text_from<R: Files + Eprint + AllocGlobal, I: BufRead>(
     let Some(text) = text_from(rt, source, reader)? else {
         return Ok(Err(FAILED));
     };
-    match ZoneText::of(rt.alloc(), text, origin, is_wide) {
+    let includes = includes_of(rt, source, &text, is_wide)?;
+    match ZoneText::of(rt.alloc(), text, includes, origin, is_wide) {
         Ok(text) => {
             tell_left_out(rt, "", source, &text)?;
             Ok(Ok(text))
         }
-        Err(refused) => {
-            let (fault, text) = (refused.fault, refused.source.as_slice());
-            let status = tell_wide(rt, "", source, fault, text)?;
-            Ok(Err(status))
-        }
+        Err(refused) => Ok(Err(tell_wide(rt, "", source, &refused)?)),
+    }
+}
+
+/// The files that a text of a source includes: none of standard input, and where the text isn't read as other servers read zone files.
+fn includes_of<R: Files + AllocGlobal>(
+    rt: &R,
+    source: Source<'_>,
+    text: &[u8],
+    is_wide: bool,
+) -> io::Result<Includes> {
+    match source {
+        Source::File(path) if is_wide => Ok(Includes::read(rt, path, text)?),
+        _ => Ok(Includes::none(rt.alloc())),
     }
 }
 
@@ -70,36 +83,40 @@ fn tell_wide<R: Eprint + AllocGlobal>(
     rt: &R,
     mark: &str,
     source: Source<'_>,
-    fault: FileFault,
-    text: &[u8],
+    file: &RefusedFile,
 ) -> io::Result<u8> {
     let alloc = rt.alloc();
     let mut errors = Vec::new(alloc);
-    let status = report_wide_fault(alloc, fault, source, text, &mut errors);
+    let text = file.source.as_slice();
+    let status = report_file(
+        alloc,
+        source,
+        text,
+        &file.includes,
+        &file.fault,
+        &mut errors,
+    )?;
     rt.eprint(mark)?;
     rt.eprint(String::from_utf8_lossy(alloc, errors.as_slice())?)?;
     Ok(status)
 }
 
 /// Reports on standard error how many records are left out of a text, if there are any.
-fn tell_left_out<R: Eprint + AllocGlobal>(
+pub(crate) fn tell_left_out<R: Eprint + AllocGlobal>(
     rt: &R,
     mark: &str,
     source: Source<'_>,
     text: &ZoneText,
 ) -> io::Result<()> {
-    let lines = text.left_out();
-    let [first, ..] = lines else {
+    let Some(said) = text
+        .plain()
+        .and_then(|plain| left_out_in(rt.alloc(), plain))
+    else {
         return Ok(());
     };
-    let count = lines.len();
     match source {
-        Source::Input => eprintln!(rt;
-            "{mark}records left out (RRSIG, NSEC, NSEC3, NSEC3PARAM): {count}, the first on line {first}"
-        ),
-        Source::File(path) => eprintln!(rt;
-            "{mark}{path}: records left out (RRSIG, NSEC, NSEC3, NSEC3PARAM): {count}, the first on line {first}"
-        ),
+        Source::Input => eprintln!(rt; "{mark}{said}"),
+        Source::File(path) => eprintln!(rt; "{mark}{path}: {said}"),
     }
 }
 
@@ -120,7 +137,8 @@ pub fn text_for<R: Env + Files + Eprint + Input + AllocGlobal>(
     let Some(text) = read else {
         return Ok(Err(FAILED));
     };
-    taken_text(rt, serve, text)
+    let includes = includes_of(rt, serve.zone, &text, serve.is_wide)?;
+    taken_text(rt, serve, text, includes)
 }
 
 /// The text of the zone that is served. Where a zone file as other servers read it is refused, but the store is chosen, it is taken as it is: it is no
@@ -129,20 +147,19 @@ fn taken_text<R: Env + Eprint + AllocGlobal>(
     rt: &R,
     serve: &Serve<'_>,
     text: Vec<u8>,
+    includes: Includes,
 ) -> io::Result<Result<ZoneText, u8>> {
-    match ZoneText::of(rt.alloc(), text, &serve.origin, serve.is_wide) {
+    match ZoneText::of(rt.alloc(), text, includes, &serve.origin, serve.is_wide) {
         Ok(text) => {
             tell_left_out(rt, Level::Notice.mark_for(rt), serve.zone, &text)?;
             Ok(Ok(text))
         }
         Err(refused) => {
-            if is_store_chosen(serve) && refused.fault.cause != Cause::NoMemory {
+            if is_store_chosen(serve) && refused.fault.cause != WideCause::Text(Cause::NoMemory) {
                 return Ok(Ok(ZoneText::refused(refused)));
             }
-            let (fault, text) = (refused.fault, refused.source.as_slice());
             let mark = Level::Error.mark_for(rt);
-            let status = tell_wide(rt, mark, Source::Input, fault, text)?;
-            Ok(Err(status))
+            Ok(Err(tell_wide(rt, mark, Source::Input, &refused)?))
         }
     }
 }
@@ -176,13 +193,9 @@ pub(crate) fn tell_zone<R: Env + Eprint + AllocGlobal>(
     fault: FileFault,
 ) -> io::Result<u8> {
     let mark = Level::Error.mark_for(rt);
-    if let Some(own) = text.fault() {
-        return tell_wide(rt, mark, Source::Input, own, text.shown());
-    }
     let alloc = rt.alloc();
     let mut errors = Vec::new(alloc);
-    let fault = Err(Fault::Zone(fault));
-    let status = report_fault(alloc, fault, text.shown(), &mut errors);
+    let status = text.report(alloc, Source::Input, fault, &mut errors)?;
     rt.eprint(mark)?;
     rt.eprint(String::from_utf8_lossy(alloc, errors.as_slice())?)?;
     Ok(status)

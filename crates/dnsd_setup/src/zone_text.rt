@@ -1,8 +1,12 @@
 //! The text of a zone, as it is read: plain, or as other servers read zone files.
+use crate::file_report::{push_placed, report_at, report_file, words_of};
+use crate::includes::Includes;
+use commands::{Fault, Source, report_fault_of};
 use dns_name::Name;
 use master_file::{FileFault, read_zone};
-use std::alloc::Global;
-use wide_file::{PlainText, plain_text, without_mark};
+use std::alloc::{AllocError, Global};
+use std::io;
+use wide_file::{PlainText, WideFault, plain_text, without_mark};
 use zone_tree::Zone;
 
 /// The text of a zone.
@@ -10,6 +14,8 @@ use zone_tree::Zone;
 pub struct ZoneText {
     /// What its source has.
     source: Vec<u8>,
+    /// The files that it includes.
+    includes: Includes,
     /// How it is read.
     reading: Reading,
 }
@@ -22,7 +28,7 @@ enum Reading {
     /// As other servers read zone files, by the plain text that stands for it.
     Wide(PlainText),
     /// As other servers read zone files, where it is refused for this fault: it is no zone.
-    Refused(FileFault),
+    Refused(WideFault),
 }
 
 /// A text that is refused where it is read as other servers read zone files.
@@ -30,74 +36,127 @@ enum Reading {
 pub(crate) struct RefusedFile {
     /// What its source has.
     pub(crate) source: Vec<u8>,
+    /// The files that it includes.
+    pub(crate) includes: Includes,
     /// What is wrong.
-    pub(crate) fault: FileFault,
+    pub(crate) fault: WideFault,
 }
 
 impl ZoneText {
-    /// The text of a source; `is_wide` is whether it is read as other servers read zone files, its names relative to the origin: a byte order mark in
-    /// front of it is passed over then. Each command reads by this function, and a server at its start and at a reload.
+    /// The text of a source, with the files that it includes; `is_wide` is whether it is read as other servers read zone files, its names relative to the
+    /// origin: a byte order mark in front of it is passed over then. Each command reads by this function, and a server at its start and at a reload.
     pub(crate) fn of(
         alloc: Global,
         source: Vec<u8>,
+        includes: Includes,
         origin: &Name,
         is_wide: bool,
     ) -> Result<ZoneText, RefusedFile> {
         if !is_wide {
             return Ok(ZoneText {
                 source,
+                includes,
                 reading: Reading::Plain,
             });
         }
-        match plain_text(alloc, without_mark(source.as_slice()), origin) {
+        let text = without_mark(source.as_slice());
+        match plain_text(alloc, includes.files.as_slice(), text, origin) {
             Ok(plain) => Ok(ZoneText {
                 source,
+                includes,
                 reading: Reading::Wide(plain),
             }),
-            Err(fault) => Err(RefusedFile { source, fault }),
+            Err(fault) => Err(RefusedFile {
+                source,
+                includes,
+                fault,
+            }),
         }
     }
 
     /// A text that is refused, and given to a store that is served whatever the zone's text is.
     pub(crate) fn refused(file: RefusedFile) -> ZoneText {
-        let RefusedFile { source, fault } = file;
+        let RefusedFile {
+            source,
+            includes,
+            fault,
+        } = file;
         ZoneText {
             source,
+            includes,
             reading: Reading::Refused(fault),
         }
     }
 
-    /// The zone of the text, or what is wrong with it.
+    /// The zone of the text, or what is wrong with it, by the line of [`ZoneText::octets`].
     pub(crate) fn zone(&self, alloc: Global, origin: &Name) -> Result<Zone, FileFault> {
         read_zone(alloc, self.octets(), origin)
     }
 
-    /// What the zone is read from, and a store created. A line of it stands for that line of what is shown.
+    /// What the zone is read from, and a store created.
     pub(crate) fn octets(&self) -> &[u8] {
         match &self.reading {
-            Reading::Wide(plain) => plain.text.as_bytes(),
+            Reading::Wide(plain) => plain.text().as_bytes(),
             _ => self.source.as_slice(),
         }
     }
 
-    /// What is shown where a line is refused.
-    pub(crate) fn shown(&self) -> &[u8] {
-        self.source.as_slice()
-    }
-
-    /// What is wrong with a text that is refused where it is read as other servers read zone files.
-    pub(crate) fn fault(&self) -> Option<FileFault> {
-        match self.reading {
-            Reading::Refused(fault) => Some(fault),
+    /// The plain text where the text is read as other servers read zone files.
+    pub(crate) fn plain(&self) -> Option<&PlainText> {
+        match &self.reading {
+            Reading::Wide(plain) => Some(plain),
             _ => None,
         }
     }
 
-    /// The lines of the records that are left out.
-    pub(crate) fn left_out(&self) -> &[u64] {
+    /// Appends to `errors` why the text is no zone, for this fault by the line of [`ZoneText::octets`], and returns the program's status.
+    pub(crate) fn report(
+        &self,
+        alloc: Global,
+        source: Source<'_>,
+        fault: FileFault,
+        errors: &mut Vec<u8>,
+    ) -> io::Result<u8> {
+        let text = self.source.as_slice();
         match &self.reading {
-            Reading::Wide(plain) => plain.left_out.as_slice(),
-            _ => &[],
+            Reading::Plain => {
+                let fault = Err(Fault::Zone(fault));
+                Ok(report_fault_of(alloc, fault, source, text, errors))
+            }
+            Reading::Wide(plain) => {
+                report_at(alloc, source, text, &self.includes, plain, fault, errors)
+            }
+            Reading::Refused(own) => report_file(alloc, source, text, &self.includes, own, errors),
         }
+    }
+
+    /// Why the text is no zone in brief, for this fault by the line of [`ZoneText::octets`].
+    pub(crate) fn words(&self, alloc: Global, fault: FileFault) -> Result<String, AllocError> {
+        let mut words = String::new(alloc);
+        write!(words, "{}", Fault::Zone(fault))?;
+        match &self.reading {
+            Reading::Plain => Ok(words),
+            Reading::Wide(plain) => {
+                let mut placed = String::new(alloc);
+                push_placed(&mut placed, plain, &words)?;
+                Ok(placed)
+            }
+            Reading::Refused(own) => words_of(alloc, own),
+        }
+    }
+
+    /// Lines that begin with `line N: ` for a line of [`ZoneText::octets`], with the file and the line of it there.
+    pub(crate) fn placed(&self, alloc: Global, lines: String) -> Result<String, AllocError> {
+        let Reading::Wide(plain) = &self.reading else {
+            return Ok(lines);
+        };
+        let mut placed = String::new(alloc);
+        for line in lines.split('\n') {
+            if !line.is_empty() {
+                push_placed(&mut placed, plain, line)?;
+                placed.push('\n')?;
+            }
+        }
+        Ok(placed)
     }
 }

@@ -1,3 +1,5 @@
+pub mod OrderLemmas
 pub mod PlainFileLemmas
 pub mod RecordLemmas
+pub mod SpellLemmas
 pub mod TextBackLemmas

@@ -1,6 +1,7 @@
 -- What the plain grammar takes has the same zone as a zone file.
-use Rattle.std.proofs.Common.{◌≡◌, ℕ, Bool, true, false, cond, not, ◌&&◌, ◌||◌, ◌==◌, bytes_eq, List, [], ◌∷◌, codes, Option, Some, None, option_map, Result, Ok, Err, ok_or, refl, sym, ap, ◌∙◌}
+use Rattle.std.proofs.Common.{◌≡◌, ℕ, ◌-◌, ◌<◌, Bool, true, false, cond, not, ◌&&◌, ◌||◌, ◌==◌, nat_lt, bytes_eq, List, [], ◌∷◌, ◌++◌, codes, Option, Some, None, option_map, Result, Ok, Err, ok_or, refl, sym, ap, subst, ◌∙◌, arith}
 use Rattle.std.specs.Option.{option_or}
+use Rattle.std.proofs.lemmas.Bool.{le-leb, lt-ltb}
 use Rattle.std.proofs.lemmas.Bool.Decides.{Decides-eqb}
 use Rattle.std.proofs.lemmas.Slice.Eq.{bytes_eq-Decides}
 use Rattle.dns_name.specs.Name.{Name}
@@ -17,9 +18,11 @@ use Rattle.record_text.specs.declared.cause.Cause.{Cause}
 use Rattle.record_text.specs.declared.cause.Cause.TheVariants.{Directive, NoTtl}
 use Rattle.zone_lexing.specs.Entries.{Entry, entries_of}
 use Rattle.zone_lexing.specs.Word.{Written}
+use Rattle.zone_lexing.proofs.EntryLemmas.{AreInOrder-of}
 use Rattle.master_file.specs.Records as plain
 use Rattle.master_file.specs.Records.{Read, alone, argument_of, directive_of, fault_at, records_of, words_of}
-use Rattle.master_file.specs.ZoneText.{zone_of_read, zone_of_text}
+use Rattle.master_file.specs.WrittenZone.{record_line}
+use Rattle.master_file.specs.ZoneText.{record_in, zone_of_read, zone_of_text}
 use Rattle.master_file.specs.declared.context.Context as declared
 use Rattle.master_file.specs.declared.fault.FileFault.{FileFault}
 use Rattle.master_file.specs.declared.record_entry.RecordEntry.{RecordEntry}
@@ -30,12 +33,17 @@ use Rattle.wide_text.specs.Mnemonics.{type_RRSIG, type_NSEC, type_NSEC3, type_NS
 use Rattle.wide_text.specs.Times.{ttl_of}
 use Rattle.wide_text.proofs.PlainFront.{plain_front_is_wide}
 use Rattle.wide_text.proofs.PlainLemmas.{number_is_time, plain_data_is_wide, read_first, read_on}
-use Rattle.wide_file.specs.WideZone.{kept, wide_zone, zone_of_wide}
-use Rattle.wide_file.specs.WideRecords.{WideRead, after_entry, directed, entry_of, entry_with, in_front, judged, minimum_ttl, owned_of, records_from, rr_of, ttl_in}
+use Rattle.wide_file.specs.Included.{Files, Placed, Whole, entries_read, included_to, max_depth, one, then_read}
+use Rattle.wide_file.specs.PlainText.{Spelled, at_line, empty_lines, goes_on, laid, line_for, line_in, part_from, put, on_line, put_all, turned, unwritten}
+use Rattle.wide_file.specs.WideZone.{placed_fault, wide_zone, zone_of_whole}
+use Rattle.wide_file.specs.WideRecords.{WideRead, after_entry, directed, entry_of, entry_with, in_front, include_of, judged, minimum_ttl, obeyed, owned_of, records_from, rr_of, start, ttl_in, wide_records}
 use Rattle.wide_file.specs.declared.context.Context.{Context}
+use Rattle.wide_file.specs.declared.part.Part.{Part}
+use Rattle.wide_file.specs.declared.record_entry.IncludeEntry.{IncludeEntry}
 use Rattle.wide_file.specs.declared.record_entry.WideEntry.{WideEntry}
 use Rattle.wide_file.specs.declared.record_entry.WideEntry.TheVariants as entry
-use Rattle.wide_file.proofs.TextBackLemmas.{wide_then}
+use Rattle.wide_file.proofs.OrderLemmas.{kept, records_below, wide_then}
+use Rattle.wide_file.proofs.TextBackLemmas.{AreBelow}
 
 -- what is in force, alike
 abbrev widen : declared.Context → Context
@@ -86,6 +94,26 @@ directed_by context next directive arguments false false s t e = cc
 directed_widens : (context next : declared.Context) (directive : List ℕ) (arguments : List Written) → plain.directed context directive arguments ≡ Ok next → directed (widen context) directive arguments ≡ Ok (widen next)
 unfolding plain.directed
 directed_widens context next directive arguments e = directed_by context next directive arguments (bytes_eq directive (codes "$ORIGIN")) (bytes_eq directive (codes "$TTL")) refl refl e
+
+-- they include no file
+no_file : (directive : List ℕ) (a b : Bool) → bytes_eq directive (codes "$ORIGIN") ≡ a → bytes_eq directive (codes "$TTL") ≡ b → {A : Type 0} (x y : Result A Cause) (z : A)
+    → cond a x (cond b y (Err Directive)) ≡ Ok z → is_word directive (codes "$INCLUDE") ≡ false
+no_file directive true b s t x y z e = ap (λ (d : List ℕ). is_word d (codes "$INCLUDE")) ((bytes_eq-Decides directive (codes "$ORIGIN")).0 s)
+no_file directive false true s t x y z e = ap (λ (d : List ℕ). is_word d (codes "$INCLUDE")) ((bytes_eq-Decides directive (codes "$TTL")).0 t)
+no_file directive false false s t x y z e = cc
+
+includes_none : (context next : declared.Context) (directive : List ℕ) (arguments : List Written) → plain.directed context directive arguments ≡ Ok next → is_word directive (codes "$INCLUDE") ≡ false
+unfolding plain.directed
+includes_none context next directive arguments e =
+    no_file directive (bytes_eq directive (codes "$ORIGIN")) (bytes_eq directive (codes "$TTL")) refl refl
+    (on_ok (λ (name : Name). record context { origin = name }) (argument_of (owner_of context.origin) arguments))
+    (on_ok (λ (ttl : Ttl). record context { default_ttl = Some ttl }) (argument_of plain_ttl arguments)) next e
+
+obeyed_widens : (context next : declared.Context) (line : ℕ) (directive : List ℕ) (arguments : List Written) → plain.directed context directive arguments ≡ Ok next → obeyed (widen context) line directive arguments ≡ Ok (widen next, None)
+unfolding obeyed
+obeyed_widens context next line directive arguments e =
+    ap (λ (b : Bool). cond b (on_ok (λ (own : IncludeEntry). (widen context, Some (entry.Include own))) (include_of (widen context) line arguments)) (on_ok (λ (n : Context). (n, None)) (directed (widen context) directive arguments))) (includes_none context next directive arguments e)
+    ∙ ap (on_ok (λ (n : Context). (n, None))) (directed_widens context next directive arguments e)
 
 -- a record that the plain grammar takes isn't left out
 signing_by : (rtype : ℕ) (a b c d : Bool) → (rtype == 46) ≡ a → (rtype == 47) ≡ b → (rtype == 50) ≡ c → (rtype == 51) ≡ d → (a || (b || (c || d))) ≡ true → (origin : Name) (words : List Written) (own : List ℕ) → octets_of_words rtype origin words ≡ Ok own → ⊥
@@ -158,12 +186,12 @@ judged_by : (context : declared.Context) (line : ℕ) (indented : Bool) (words :
       | None ↦ on_ok (λ rr. (plain.behind context rr, Some rr)) (plain.record_of context line indented words)
     ] ≡ Ok pair
     → elim d as (λ _. Result (Context × Option WideEntry) Cause) [
-      | Some directive ↦ on_ok (λ next. (next, None)) (directed (widen context) directive.0 directive.1)
+      | Some directive ↦ obeyed (widen context) line directive.0 directive.1
       | None ↦ on_ok (λ own. (after_entry (widen context) own, Some own)) (entry_of (widen context) line indented words)
     ] ≡ Ok (widened pair)
 judged_by context line indented words (Some directive) pair e =
     let read = read_on (plain.directed context directive.0 directive.1) (λ (next : declared.Context). (next, None)) pair e in
-    ap (on_ok (λ (next : Context). (next, None))) (directed_widens context read.0 directive.0 directive.1 read.1) ∙ ap (λ (p : declared.Context × Option RecordEntry). Ok (widened p)) read.2
+    obeyed_widens context read.0 line directive.0 directive.1 read.1 ∙ ap (λ (p : declared.Context × Option RecordEntry). Ok (widened p)) read.2
 judged_by context line indented words None pair e =
     let read = read_on (plain.record_of context line indented words) (λ (rr : RecordEntry). (plain.behind context rr, Some rr)) pair e in
     ap (on_ok (λ (own : WideEntry). (after_entry (widen context) own, Some own))) (record_widens context line indented words read.0 read.1) ∙ ap (λ (p : declared.Context × Option RecordEntry). Ok (widened p)) read.2
@@ -205,14 +233,67 @@ all_widen context (first ∷ entries) none =
     then_widens first.line first.unclosed entries (plain.judged context first.line first.indented (words_of first)) (judged (widen context) first.line first.indented (words_of first))
     (judged_widens context first.line first.indented (words_of first)) (λ next. all_widen next entries) none
 
+-- they are all of one file
+abbrev in_file : RecordEntry → Placed
+in_file rr = record { file = []; own = entry.Record rr }
+
+abbrev all_placed : List RecordEntry → List Placed
+all_placed [] = []
+all_placed (rr ∷ rrs) = in_file rr ∷ all_placed rrs
+
+all_read : (included : IncludeEntry → Whole) (rrs : List RecordEntry) → entries_read included [] None (as_entries rrs) ≡ record { entries = all_placed rrs; fault = None }
+all_read included [] = refl
+all_read included (rr ∷ rrs) = ap (then_read (one [] (entry.Record rr))) (all_read included rrs)
+
+-- each on the line of its entry
+abbrev file_part : Part
+file_part = record { at = 0; file = []; from = 0 }
+
+abbrev of_file : List ℕ → ℕ → Spelled
+of_file text lines = record { text = text; line = lines; part = file_part; parts = []; left_out = 0; first_left_out = None }
+
+own_line : (line : ℕ) → line_in file_part line ≡ line
+own_line line = omega arith
+
+goes : (lines line : ℕ) → lines < line → goes_on file_part lines [] line ≡ true
+goes lines line h =
+    ap (λ (b : Bool). b && nat_lt lines (line_in file_part line)) (le-leb 0 line (omega arith))
+    ∙ ap (nat_lt lines) (own_line line) ∙ lt-ltb lines line h
+
+stays : (text : List ℕ) (lines line : ℕ) → lines < line → turned (of_file text lines) [] line ≡ of_file text lines
+stays text lines line h = ap (λ (b : Bool). cond b (of_file text lines) (record (of_file text lines) { part = part_from lines [] line; parts = file_part ∷ [] })) (goes lines line h)
+
+same_line : (text : List ℕ) (lines line : ℕ) → lines < line → line_for (of_file text lines) [] line ≡ line
+same_line text lines line h = ap (λ (plain : Spelled). line_in plain.part line) (stays text lines line h) ∙ own_line line
+
+abbrev more : List ℕ → ℕ → RecordEntry → List ℕ
+more text lines rr = text ++ (empty_lines (rr.line - lines - 1) ++ record_line (record_in rr))
+
+put_next : (text : List ℕ) (lines : ℕ) (rr : RecordEntry) → lines < rr.line → put (of_file text lines) [] (entry.Record rr) ≡ of_file (more text lines rr) rr.line
+put_next text lines rr h =
+    ap (λ (at : ℕ). on_line (turned (of_file text lines) [] rr.line) at rr) (same_line text lines rr.line h)
+    ∙ ap (λ (plain : Spelled). on_line plain rr.line rr) (stays text lines rr.line h)
+
+laid_same : (text : List ℕ) (lines : ℕ) (rrs : List RecordEntry) → AreBelow lines rrs → laid (of_file text lines) (all_placed rrs) ≡ rrs
+laid_same text lines [] h = refl
+laid_same text lines (rr ∷ rrs) h =
+    ap (λ (at : ℕ). at_line at rr ∷ laid (put (of_file text lines) [] (entry.Record rr)) (all_placed rrs)) (same_line text lines rr.line h.0)
+    ∙ ap (λ (plain : Spelled). rr ∷ laid plain (all_placed rrs)) (put_next text lines rr h.0)
+    ∙ ap (λ (ps : List RecordEntry). rr ∷ ps) (laid_same (more text lines rr) rr.line rrs h.1)
+
 -- the zone
 same_read : (read : Read) (zone : List Record) → read.fault ≡ None → zone_of_read read ≡ Ok zone → zone_of_read (record { rrs = read.rrs; fault = None }) ≡ Ok zone
 same_read read zone none e = ap (λ (f : Option FileFault). zone_of_read (record { rrs = read.rrs; fault = f })) (sym none) ∙ e
 
-pub plain_zone_is_wide : (origin : Name) (text : List ℕ) (zone : List Record) → zone_of_text origin text ≡ Ok zone → wide_zone origin text ≡ Ok zone
-plain_zone_is_wide origin text zone e =
+pub plain_zone_is_wide : (files : Files) (origin : Name) (text : List ℕ) (zone : List Record) → zone_of_text origin text ≡ Ok zone → wide_zone files origin text ≡ Ok zone
+plain_zone_is_wide files origin text zone e =
     let read = records_of origin text in
     let none = read_whole read zone e in
-    ap zone_of_wide (all_widen (plain.start origin) (entries_of text) none)
-    ∙ ap (λ (rrs : List RecordEntry). zone_of_read (record { rrs = rrs; fault = None })) (all_kept read.rrs)
-    ∙ same_read read zone none e
+    let wide : wide_records origin text ≡ all_of read = all_widen (plain.start origin) (entries_of text) none in
+    let included = included_to max_depth files [] in
+    let below : AreBelow 0 (kept (wide_records origin text).entries) = records_below (start origin) 0 (entries_of text) (AreInOrder-of text) in
+    let own_below : AreBelow 0 read.rrs = subst (AreBelow 0) (ap (λ (r : WideRead). kept r.entries) wide ∙ all_kept read.rrs) below in
+    ap (λ (r : WideRead). zone_of_whole (entries_read included [] r.fault r.entries)) wide
+    ∙ ap zone_of_whole (all_read included read.rrs)
+    ∙ ap (λ (rrs : List RecordEntry). placed_fault (put_all unwritten (all_placed read.rrs)) (zone_of_read (record { rrs = rrs; fault = None }))) (laid_same [] 0 read.rrs own_below)
+    ∙ ap (placed_fault (put_all unwritten (all_placed read.rrs))) (same_read read zone none e)

@@ -1,35 +1,28 @@
 -- The plain text of records is read as these records, each on its line.
-use Rattle.std.proofs.Common.{◌≡◌, ℕ, suc, zero, ◌+◌, ◌-◌, ◌<◌, ◌≤◌, Bool, true, false, cond, List, [], ◌∷◌, ◌++◌, Option, Some, None, MatchOption, Result, Ok, Err, refl, sym, ap, subst, ◌∙◌, arith}
+use Rattle.std.proofs.Common.{◌≡◌, ℕ, suc, zero, ◌+◌, ◌-◌, ◌<◌, Bool, true, false, cond, ◌&&◌, nat_le, nat_lt, bytes_eq, List, [], ◌∷◌, ◌++◌, Option, Some, None, Result, Ok, Err, refl, sym, ap, ◌∙◌, arith}
 use Rattle.std.specs.List.{AllByRecursion, list_all}
-use Rattle.std.proofs.lemmas.List.{append_assoc}
+use Rattle.std.proofs.lemmas.Bool.{ltb-true}
+use Rattle.std.proofs.lemmas.List.{append_assoc, append-nil}
 use Rattle.std.proofs.lemmas.List.Elements.{All-from_recursion}
 use Rattle.std.proofs.lemmas.Grind.{flat_map-append}
 use Rattle.dns_rdata.specs.Record.{Record, IsLawful}
-use Rattle.dns_rdata.specs.declared.numbers.Ttl.{Ttl}
-use Rattle.record_text.specs.Front.{Front}
-use Rattle.record_text.specs.Reading.{on_ok, and_then}
 use Rattle.record_text.specs.declared.cause.Cause.{Cause}
-use Rattle.zone_lexing.specs.Entries.{Entry, entries_of}
-use Rattle.zone_lexing.specs.Order.{AreInOrder}
+use Rattle.zone_lexing.specs.Entries.{Entry}
 use Rattle.zone_lexing.specs.Spelling.{are_spelt, is_spelt, one_a_line, spell, spell_line}
 use Rattle.zone_lexing.specs.Word.{Written}
-use Rattle.zone_lexing.proofs.EntryLemmas.{AreInOrder-of}
 use Rattle.zone_lexing.proofs.SpellingLemmas.{both, lines-read}
 use Rattle.master_file.specs.Records as plain
-use Rattle.master_file.specs.Records.{Read, directive_of, fault_at, words_of}
+use Rattle.master_file.specs.Records.{Read, fault_at}
 use Rattle.master_file.specs.WrittenZone.{line_words, record_line, rr_at}
 use Rattle.master_file.specs.ZoneText.{record_in}
 use Rattle.master_file.specs.declared.context.Context as declared
 use Rattle.master_file.specs.declared.record_entry.RecordEntry.{RecordEntry}
 use Rattle.master_file.proofs.ZoneBackLemmas.{record_judged}
 use Rattle.master_file.proofs.ZoneLawLemmas.{line_is, lines_spelt}
-use Rattle.wide_text.specs.Data.{wide_data}
-use Rattle.wide_text.specs.Front.{wide_front}
-use Rattle.wide_text.specs.Signing.{left_out}
-use Rattle.wide_file.specs.PlainText.{Spelled, empty_lines, lines_text, spelled}
-use Rattle.wide_file.specs.WideRecords.{WideRead, after_entry, directed, entry_of, entry_with, faulty, in_front, judged, owned_of, records_from, rr_of, start, ttl_in, wide_records}
-use Rattle.wide_file.specs.WideZone.{IsOfZone, kept, kept_of}
-use Rattle.wide_file.specs.declared.context.Context.{Context}
+use Rattle.wide_file.specs.Included.{Placed}
+use Rattle.wide_file.specs.PlainText.{Spelled, empty_lines, goes_on, laid, laid_one, line_for, line_in, part_from, put, put_all, turned, unwritten}
+use Rattle.wide_file.specs.Private.{AreOfZone, IsEntryOfZone}
+use Rattle.wide_file.specs.WideZone.{IsOfZone, laid_read}
 use Rattle.wide_file.specs.declared.record_entry.WideEntry.{WideEntry}
 use Rattle.wide_file.specs.declared.record_entry.WideEntry.TheVariants as entry
 
@@ -43,22 +36,26 @@ abbrev pub text_lines : ℕ → List RecordEntry → List (List Written)
 text_lines line [] = []
 text_lines line (rr ∷ rrs) = empties (rr.line - line - 1) ++ line_words (record_in rr) ∷ text_lines rr.line rrs
 
+-- the text of records, each on its line, after so many lines
+abbrev pub lines_text : ℕ → List RecordEntry → List ℕ
+lines_text line [] = []
+lines_text line (rr ∷ rrs) = (empty_lines (rr.line - line - 1) ++ record_line (record_in rr)) ++ lines_text rr.line rrs
+
 -- the text is its words with a space between
 spell_empties : (n : ℕ) → spell (empties n) ≡ empty_lines n
 spell_empties zero = refl
 spell_empties (suc n) = ap (λ (t : List ℕ). 10 ∷ t) (spell_empties n)
 
-pub text_is : (line : ℕ) (entries : List WideEntry) → lines_text line entries ≡ spell (text_lines line (kept entries))
+pub text_is : (line : ℕ) (rrs : List RecordEntry) → lines_text line rrs ≡ spell (text_lines line rrs)
 text_is line [] = refl
-text_is line (entry.LeftOut left ∷ entries) = text_is line entries
-text_is line (entry.Record rr ∷ entries) =
+text_is line (rr ∷ rrs) =
     let n = rr.line - line - 1 in
     let r = record_in rr in
-    append_assoc (empty_lines n) (record_line r) (lines_text rr.line entries)
-    ∙ ap (λ (t : List ℕ). empty_lines n ++ (record_line r ++ t)) (text_is rr.line entries)
-    ∙ ap (λ (t : List ℕ). empty_lines n ++ (t ++ spell (text_lines rr.line (kept entries)))) (line_is r)
-    ∙ ap (λ (t : List ℕ). t ++ (spell_line (line_words r) ++ spell (text_lines rr.line (kept entries)))) (sym (spell_empties n))
-    ∙ sym (flat_map-append spell_line (empties n) (line_words r ∷ text_lines rr.line (kept entries)))
+    append_assoc (empty_lines n) (record_line r) (lines_text rr.line rrs)
+    ∙ ap (λ (t : List ℕ). empty_lines n ++ (record_line r ++ t)) (text_is rr.line rrs)
+    ∙ ap (λ (t : List ℕ). empty_lines n ++ (t ++ spell (text_lines rr.line rrs))) (line_is r)
+    ∙ ap (λ (t : List ℕ). t ++ (spell_line (line_words r) ++ spell (text_lines rr.line rrs))) (sym (spell_empties n))
+    ∙ sym (flat_map-append spell_line (empties n) (line_words r ∷ text_lines rr.line rrs))
 
 -- each word is spelt by its octets
 spelt_after : (n : ℕ) (lines : List (List Written)) → are_spelt lines ≡ true → are_spelt (empties n ++ lines) ≡ true
@@ -105,114 +102,70 @@ read_back context line (rr ∷ rrs) h k =
     ∙ ap (then rr.line None (one_a_line (rr.line + 1) (text_lines rr.line rrs))) (record_judged context rr.line r h.0.lawful h.0.short)
     ∙ ap (plain.in_front (rr_at rr.line r)) (read_back (plain.behind context (rr_at rr.line r)) rr.line rrs h.1 k.1)
 
--- the records of a file stand below each other
-abbrev IsAt : ℕ → WideEntry → Type 0
-IsAt line (entry.Record rr) = rr.line ≡ line
-IsAt line (entry.LeftOut left) = Unit {0}
+-- the text of what is put
+turned_by : (plain : Spelled) (file : List ℕ) (line : ℕ) (b : Bool) → ((cond b plain (record plain { part = part_from plain.line file line; parts = plain.parts ++ plain.part ∷ [] })).text ≡ plain.text) × ((cond b plain (record plain { part = part_from plain.line file line; parts = plain.parts ++ plain.part ∷ [] })).line ≡ plain.line)
+turned_by plain file line true = (refl, refl)
+turned_by plain file line false = (refl, refl)
 
-abbrev GivesAt : ℕ → Result WideEntry Cause → Type 0
-GivesAt line (Ok own) = IsAt line own
-GivesAt line (Err cause) = Unit {0}
+turned_text : (plain : Spelled) (file : List ℕ) (line : ℕ) → ((turned plain file line).text ≡ plain.text) × ((turned plain file line).line ≡ plain.line)
+turned_text plain file line = turned_by plain file line (goes_on plain.part plain.line file line)
 
-abbrev GivesRecordAt : ℕ → Result RecordEntry Cause → Type 0
-GivesRecordAt line (Ok rr) = rr.line ≡ line
-GivesRecordAt line (Err cause) = Unit {0}
+one_text : (plain : Spelled) (file : List ℕ) (rr : RecordEntry) (more : List ℕ)
+    → (put plain file (entry.Record rr)).text ++ more ≡ plain.text ++ ((empty_lines (line_for plain file rr.line - plain.line - 1) ++ record_line (record_in rr)) ++ more)
+one_text plain file rr more =
+    let same = turned_text plain file rr.line in
+    let at = line_for plain file rr.line in
+    ap (λ (t : List ℕ). (t ++ (empty_lines (at - (turned plain file rr.line).line - 1) ++ record_line (record_in rr))) ++ more) same.0
+    ∙ ap (λ (n : ℕ). (plain.text ++ (empty_lines (at - n - 1) ++ record_line (record_in rr))) ++ more) same.1
+    ∙ append_assoc plain.text (empty_lines (at - plain.line - 1) ++ record_line (record_in rr)) more
 
-then_record : {A : Type 0} (line : ℕ) (r : Result A Cause) (h : A → Result RecordEntry Cause) → ((x : A) → GivesRecordAt line (h x)) → GivesRecordAt line (and_then r h)
-then_record line (Ok x) h k = k x
-then_record line (Err cause) h k = tt
+then_text : (plain : Spelled) (file : List ℕ) (own : WideEntry) (entries : List Placed)
+    → (put_all (put plain file own) entries).text ≡ (put plain file own).text ++ lines_text (put plain file own).line (laid (put plain file own) entries)
+    → (put_all (put plain file own) entries).text ≡ plain.text ++ lines_text plain.line (laid_one plain file own ++ laid (put plain file own) entries)
+then_text plain file (entry.Record rr) entries h = h ∙ one_text plain file rr (lines_text (line_for plain file rr.line) (laid (put plain file (entry.Record rr)) entries))
+then_text plain file (entry.LeftOut left) entries h = h
+then_text plain file (entry.Include own) entries h = h
 
-on_record : {A : Type 0} (line : ℕ) (g : A → RecordEntry) (r : Result A Cause) → ((x : A) → (g x).line ≡ line) → GivesRecordAt line (on_ok g r)
-on_record line g (Ok x) k = k x
-on_record line g (Err cause) k = tt
+pub put_text : (plain : Spelled) (entries : List Placed) → (put_all plain entries).text ≡ plain.text ++ lines_text plain.line (laid plain entries)
+put_text plain [] = sym (append-nil plain.text)
+put_text plain (placed ∷ entries) = then_text plain placed.file placed.own entries (put_text (put plain placed.file placed.own) entries)
 
-then_at : {A : Type 0} (line : ℕ) (r : Result A Cause) (h : A → Result WideEntry Cause) → ((x : A) → GivesAt line (h x)) → GivesAt line (and_then r h)
-then_at line (Ok x) h k = k x
-then_at line (Err cause) h k = tt
+-- each record is on a line below that of the one before
+below_by : (plain : Spelled) (file : List ℕ) (line : ℕ) (a b c : Bool) → nat_lt plain.line (line_in plain.part line) ≡ c
+    → plain.line < line_in (cond (a && (b && c)) plain (record plain { part = part_from plain.line file line; parts = plain.parts ++ plain.part ∷ [] })).part line
+below_by plain file line true true true e = ltb-true plain.line (line_in plain.part line) e
+below_by plain file line true true false e = omega arith
+below_by plain file line true false c e = omega arith
+below_by plain file line false b c e = omega arith
 
-as_record : (line : ℕ) (r : Result RecordEntry Cause) → GivesRecordAt line r → GivesAt line (on_ok (λ (rr : RecordEntry). entry.Record rr) r)
-as_record line (Ok rr) h = h
-as_record line (Err cause) h = tt
+is_below : (plain : Spelled) (file : List ℕ) (line : ℕ) → plain.line < line_for plain file line
+is_below plain file line = below_by plain file line (bytes_eq plain.part.file file) (nat_le plain.part.from line) (nat_lt plain.line (line_in plain.part line)) refl
 
-either_at : (line : ℕ) (b : Bool) (r s : Result WideEntry Cause) → GivesAt line r → GivesAt line s → GivesAt line (cond b r s)
-either_at line true r s h k = h
-either_at line false r s h k = k
+then_below : (plain : Spelled) (file : List ℕ) (own : WideEntry) (rrs : List RecordEntry) → AreBelow (put plain file own).line rrs → AreBelow plain.line (laid_one plain file own ++ rrs)
+then_below plain file (entry.Record rr) rrs h = (is_below plain file rr.line, h)
+then_below plain file (entry.LeftOut left) rrs h = h
+then_below plain file (entry.Include own) rrs h = h
 
-rr_at_line : (context : Context) (line : ℕ) (owner : List (List ℕ)) (front : Front) → GivesRecordAt line (rr_of context line owner front)
-rr_at_line context line owner front =
-    then_record line (wide_data front.rtype context.origin front.words) _ (λ (octets : List ℕ).
-    on_record line (λ (ttl : Ttl). record { line = line; owner = owner; ttl = ttl; rdata = record { rtype = front.rtype; octets = octets } }) (ttl_in context front.ttl front.rtype octets) (λ ttl. refl))
+pub laid_below : (plain : Spelled) (entries : List Placed) → AreBelow plain.line (laid plain entries)
+laid_below plain [] = tt
+laid_below plain (placed ∷ entries) = then_below plain placed.file placed.own (laid (put plain placed.file placed.own) entries) (laid_below (put plain placed.file placed.own) entries)
 
-with_at : (context : Context) (line : ℕ) (owner : List (List ℕ)) (front : Front) → GivesAt line (entry_with context line owner front)
-with_at context line owner front =
-    then_at line (left_out front.rtype front.words) _ (λ (left : Bool).
-    either_at line left (Ok (entry.LeftOut (record { line = line; owner = owner; ttl = front.ttl }))) (on_ok (λ (rr : RecordEntry). entry.Record rr) (rr_of context line owner front)) tt
-    (as_record line (rr_of context line owner front) (rr_at_line context line owner front)))
+-- and is one that a zone may have
+then_of_zone : (plain : Spelled) (file : List ℕ) (own : WideEntry) (rrs : List RecordEntry) → IsEntryOfZone own → AllByRecursion IsOfZone rrs → AllByRecursion IsOfZone (laid_one plain file own ++ rrs)
+then_of_zone plain file (entry.Record rr) rrs h k = (record { lawful = h.lawful; short = h.short }, k)
+then_of_zone plain file (entry.LeftOut left) rrs h k = k
+then_of_zone plain file (entry.Include own) rrs h k = k
 
-own_at : (context : Context) (line : ℕ) (indented : Bool) (words : List Written) → GivesAt line (entry_of context line indented words)
-own_at context line indented words =
-    then_at line (owned_of context indented words) _ (λ (owned : List (List ℕ) × List Written). then_at line (wide_front owned.1) _ (λ (front : Front). with_at context line owned.0 front))
+pub laid_of_zone : (plain : Spelled) (entries : List Placed) → AreOfZone entries → AllByRecursion IsOfZone (laid plain entries)
+laid_of_zone plain [] h = tt
+laid_of_zone plain (placed ∷ entries) h =
+    then_of_zone plain placed.file placed.own (laid (put plain placed.file placed.own) entries) h.0 (laid_of_zone (put plain placed.file placed.own) entries h.1)
 
-abbrev GivesEntryAt : ℕ → Result (Context × Option WideEntry) Cause → Type 0
-GivesEntryAt line (Ok (next, None)) = Unit {0}
-GivesEntryAt line (Ok (next, Some own)) = IsAt line own
-GivesEntryAt line (Err cause) = Unit {0}
-
-in_force_at : (line : ℕ) (r : Result Context Cause) → GivesEntryAt line (on_ok (λ (next : Context). (next, None)) r)
-in_force_at line (Ok context) = tt
-in_force_at line (Err cause) = tt
-
-passed_at : (context : Context) (line : ℕ) (r : Result WideEntry Cause) → GivesAt line r → GivesEntryAt line (on_ok (λ (own : WideEntry). (after_entry context own, Some own)) r)
-passed_at context line (Ok own) h = h
-passed_at context line (Err cause) h = tt
-
-entry_at : (context : Context) (line : ℕ) (d : Option (List ℕ × List Written)) (r : Result WideEntry Cause) → GivesAt line r → GivesEntryAt line (elim d as (λ _. Result (Context × Option WideEntry) Cause) [
-  | Some directive ↦ on_ok (λ next. (next, None)) (directed context directive.0 directive.1)
-  | None ↦ on_ok (λ own. (after_entry context own, Some own)) r
-])
-entry_at context line None r h = passed_at context line r h
-entry_at context line (Some directive) r h = in_force_at line (directed context directive.0 directive.1)
-
-still_below : (line more : ℕ) (rrs : List RecordEntry) → line ≤ more → AreBelow more rrs → AreBelow line rrs
-still_below line more [] h k = tt
-still_below line more (rr ∷ rrs) h k = let below = k.0 in (omega arith, k.1)
-
-rest_in_order : (line : ℕ) (unclosed : Option ℕ) (entries : List Entry) → MatchOption unclosed (AreInOrder (line + 1) entries) (λ (fault : ℕ). (line ≤ fault) × (entries ≡ [])) → AreInOrder (line + 1) entries
-rest_in_order line None entries h = h
-rest_in_order line (Some fault) entries h = subst (λ (es : List Entry). AreInOrder (line + 1) es) (sym h.1) tt
-
--- what the first entry makes of those after it
-abbrev pub wide_then : ℕ → Option ℕ → List Entry → Result (Context × Option WideEntry) Cause → WideRead
-wide_then line unclosed entries r = elim r [
-  | Err cause ↦ faulty (fault_at line unclosed cause)
-  | Ok (next, None) ↦ records_from next entries
-  | Ok (next, Some own) ↦ in_front own (records_from next entries)
-]
-
-then_below : (line at : ℕ) (unclosed : Option ℕ) (entries : List Entry) (r : Result (Context × Option WideEntry) Cause) → line < at → GivesEntryAt at r → ((next : Context) → AreBelow at (kept (records_from next entries).entries)) → AreBelow line (kept (wide_then at unclosed entries r).entries)
-then_below line at unclosed entries (Err cause) h k more = tt
-then_below line at unclosed entries (Ok (next, None)) h k more = still_below line at (kept (records_from next entries).entries) (omega arith) (more next)
-then_below line at unclosed entries (Ok (next, Some (entry.LeftOut left))) h k more = still_below line at (kept (records_from next entries).entries) (omega arith) (more next)
-then_below line at unclosed entries (Ok (next, Some (entry.Record rr))) h k more =
-    let same : rr.line ≡ at = k in
-    (omega arith, subst (λ (m : ℕ). AreBelow m (kept (records_from next entries).entries)) (sym same) (more next))
-
-records_below : (context : Context) (line : ℕ) (entries : List Entry) → AreInOrder (line + 1) entries → AreBelow line (kept (records_from context entries).entries)
-records_below context line [] h = tt
-records_below context line (first ∷ entries) h =
-    let from = h.0.below in
-    then_below line first.line first.unclosed entries (judged context first.line first.indented (words_of first)) (omega arith)
-    (entry_at context first.line (directive_of first.indented (words_of first)) (entry_of context first.line first.indented (words_of first)) (own_at context first.line first.indented (words_of first)))
-    (λ next. records_below next first.line entries (rest_in_order first.line first.unclosed entries h.1))
-
--- the plain text of a file has its records
-back : (origin : List (List ℕ)) (text : List ℕ) → AllByRecursion IsOfZone (kept (wide_records origin text).entries) → (other : List (List ℕ)) → plain.records_of other (lines_text 0 (wide_records origin text).entries) ≡ kept_of (wide_records origin text)
-back origin text lawful other =
-    let rrs = kept (wide_records origin text).entries in
-    ap (plain.records_of other) (text_is 0 (wide_records origin text).entries)
-    ∙ ap (plain.records_from (plain.start other)) (lines-read (text_lines 0 rrs) 1 (all_spelt 0 rrs lawful))
-    ∙ read_back (plain.start other) 0 rrs lawful (records_below (start origin) 0 (entries_of text) (AreInOrder-of text))
-
-pub spelled_back : (origin : List (List ℕ)) (text octets left : List ℕ) → spelled origin text ≡ record { text = octets; left_out = left; fault = None } → AllByRecursion IsOfZone (kept (wide_records origin text).entries)
-    → (other : List (List ℕ)) → plain.records_of other octets ≡ kept_of (wide_records origin text)
-spelled_back origin text octets left is lawful other = ap (plain.records_of other) (sym (ap (λ (s : Spelled). s.text) is)) ∙ back origin text lawful other
+-- the plain text of files has their records
+pub back : (entries : List Placed) → AreOfZone entries → (other : List (List ℕ)) → plain.records_of other (put_all unwritten entries).text ≡ laid_read entries
+back entries lawful other =
+    let rrs = laid unwritten entries in
+    let of_zone = laid_of_zone unwritten entries lawful in
+    ap (plain.records_of other) (put_text unwritten entries ∙ text_is 0 rrs)
+    ∙ ap (plain.records_from (plain.start other)) (lines-read (text_lines 0 rrs) 1 (all_spelt 0 rrs of_zone))
+    ∙ read_back (plain.start other) 0 rrs of_zone (laid_below unwritten entries)

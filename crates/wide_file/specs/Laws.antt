@@ -3,8 +3,9 @@ use Rattle.std.specs.Prelude.{◌≡◌, ℕ, List, Ok}
 use Rattle.dns_name.specs.Name.{Name}
 use Rattle.dns_rdata.specs.Record.{Record}
 use Rattle.master_file.specs.ZoneText.{zone_of_text}
+use Rattle.wide_file.specs.Included.{Files}
 use Rattle.wide_file.specs.WideZone.{wide_zone}
 
--- a text that the plain grammar takes has the same zone as a zone file
+-- a text that the plain grammar takes has the same zone as a zone file, whatever files there are
 abbrev pub PlainZonesAreWide : Type 0
-PlainZonesAreWide = (origin : Name) (text : List ℕ) (zone : List Record) → zone_of_text origin text ≡ Ok zone → wide_zone origin text ≡ Ok zone
+PlainZonesAreWide = (files : Files) (origin : Name) (text : List ℕ) (zone : List Record) → zone_of_text origin text ≡ Ok zone → wide_zone files origin text ≡ Ok zone

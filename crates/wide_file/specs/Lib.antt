@@ -1,5 +1,11 @@
+pub mod Fault
+pub mod Included
+pub mod IncludedPaths
 pub mod Laws
 pub mod Mark
+pub mod Paths
 pub mod PlainText
+pub mod Private
 pub mod WideRecords
 pub mod WideZone
+pub mod WordsText

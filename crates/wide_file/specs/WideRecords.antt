@@ -14,7 +14,9 @@ use Rattle.record_text.specs.NameWord.{owner_of}
 use Rattle.record_text.specs.Reading.{on_ok, and_then}
 use Rattle.record_text.specs.declared.cause.Cause.{Cause}
 use Rattle.record_text.specs.declared.cause.Cause.TheVariants.{Directive, BadData, NoTtl, NoOwner}
+use Rattle.record_text.specs.declared.cause.Cause.TheVariants.{Unclosed as no_word}
 use Rattle.wide_file.specs.declared.context.Context.{Context}
+use Rattle.wide_file.specs.declared.record_entry.IncludeEntry.{IncludeEntry}
 use Rattle.wide_file.specs.declared.record_entry.WideEntry.{WideEntry}
 use Rattle.wide_file.specs.declared.record_entry.WideEntry.TheVariants as entry
 use Rattle.wide_text.specs.Data.{wide_data}
@@ -23,6 +25,7 @@ use Rattle.wide_text.specs.Signing.{left_out}
 use Rattle.wide_text.specs.Times.{ttl_of}
 use Rattle.zone_lexing.specs.Entries.{Entry, entries_of}
 use Rattle.zone_lexing.specs.Word.{Written}
+use Rattle.zone_lexing.specs.Word.Written.{Plain, Quoted, Unclosed}
 
 -- what is in force after a directive, whose word may be in any case: `$ORIGIN` has a name, relative to the origin before it, and `$TTL` a TTL,
 -- which may have units (RFC 1035, 5.1; RFC 2308, 4)
@@ -31,6 +34,29 @@ directed context directive arguments =
     if is_word directive (codes "$ORIGIN") then on_ok (λ name. record context { origin = name }) (argument_of (owner_of context.origin) arguments)
     else if is_word directive (codes "$TTL") then on_ok (λ ttl. record context { default_ttl = Some ttl }) (argument_of ttl_of arguments)
     else Err Directive
+
+-- the path that a word is, outside quotes or between two: its octets as they are written (own)
+abbrev pub path_of : Written → Result (List ℕ) Cause
+path_of (Plain octets) = Ok octets
+path_of (Quoted octets) = Ok octets
+path_of Unclosed = Err no_word
+
+-- the origin that stands after a path, else the one in force
+abbrev pub origin_after : Name → List Written → Result Name Cause
+origin_after origin [] = Ok origin
+origin_after origin (word ∷ words) = argument_of (owner_of origin) (word ∷ words)
+
+-- the file that `$INCLUDE` names, and what is in force where it begins: its names are under its own origin, where there is one (RFC 1035, 5.1)
+abbrev pub include_of : Context → ℕ → List Written → Result IncludeEntry Cause
+include_of context line [] = Err Directive
+include_of context line (word ∷ words) =
+    and_then (path_of word) (λ path. on_ok (λ origin. record { line = line; path = path; context = record context { origin = origin } }) (origin_after context.origin words))
+
+-- what is in force after a directive, and the file where it includes one
+unfoldable pub obeyed : Context → ℕ → List ℕ → List Written → Result (Context × Option WideEntry) Cause
+obeyed context line directive arguments =
+    if is_word directive (codes "$INCLUDE") then on_ok (λ own. (context, Some (entry.Include own))) (include_of context line arguments)
+    else on_ok (λ next. (next, None)) (directed context directive arguments)
 
 -- the owner of a record, and the words after it: a line that begins with a blank takes the owner of the record before
 -- (RFC 1035, 5.1). Owners are in lower case
@@ -66,19 +92,20 @@ abbrev pub entry_of : Context → ℕ → Bool → List Written → Result WideE
 entry_of context line indented words =
     and_then (owned_of context indented words) (λ owned. and_then (wide_front owned.1) (λ front. entry_with context line owned.0 front))
 
--- what is in force after a record; one that is left out has an owner too, and a TTL where one is written
+-- what is in force after a record, and after a file that is included: what was before it; one that is left out has an owner too, and a TTL where one is written
 abbrev pub after_entry : Context → WideEntry → Context
 after_entry context (entry.Record rr) = record context { owner = Some rr.owner; ttl = Some rr.ttl }
 after_entry context (entry.LeftOut left) = record context { owner = Some left.owner; ttl = option_or left.ttl context.ttl }
+after_entry context (entry.Include own) = context
 
--- what is in force after an entry, and the entry where it is no directive
+-- what is in force after an entry, and the entry where it is a record or includes a file
 abbrev pub judged : Context → ℕ → Bool → List Written → Result (Context × Option WideEntry) Cause
 judged context line indented words = elim (directive_of indented words) [
-  | Some directive ↦ on_ok (λ next. (next, None)) (directed context directive.0 directive.1)
+  | Some directive ↦ obeyed context line directive.0 directive.1
   | None ↦ on_ok (λ own. (after_entry context own, Some own)) (entry_of context line indented words)
 ]
 
--- what is read of a zone file: its entries in order but for directives, up to its first fault, and that fault
+-- what is read of a zone file: its records and the files that it includes, in order, up to its first fault, and that fault
 pub record WideRead : Type 0 where
   pub entries : List WideEntry
   pub fault : Option FileFault
@@ -107,9 +134,13 @@ records_from context (entry ∷ entries) = elim (judged context entry.line entry
 abbrev pub start : Name → Context
 start origin = record { origin = origin; default_ttl = None; owner = None; ttl = None }
 
+-- what is read of a text, where this is in force at its start
+abbrev pub records_in : Context → List ℕ → WideRead
+records_in context text = records_from context (entries_of text)
+
 -- what is read of a zone file
 abbrev pub wide_records : Name → List ℕ → WideRead
-wide_records origin text = records_from (start origin) (entries_of text)
+wide_records origin text = records_in (start origin) text
 
 -- the owner in force is in lower case (RFC 4343, 3), and the TTLs last at most 2^31 - 1 seconds (RFC 2181, 8)
 pub record IsInForce (context : Context) : Type 0 where
@@ -117,7 +148,8 @@ pub record IsInForce (context : Context) : Type 0 where
   pub default_ttl : IfSome context.default_ttl (λ ttl. ttl.0 < 2 ^ 31)
   pub ttl : IfSome context.ttl (λ ttl. ttl.0 < 2 ^ 31)
 
--- an owner is in lower case, and a TTL lasts at most 2^31 - 1 seconds
+-- an owner is in lower case, and a TTL lasts at most 2^31 - 1 seconds; so it is with what is in force where a file begins
 abbrev pub IsLawful : WideEntry → Type 0
+IsLawful (entry.Include own) = IsInForce own.context
 IsLawful (entry.Record rr) = (rr.owner ≡ fold_name rr.owner) × (rr.ttl.0 < 2 ^ 31)
 IsLawful (entry.LeftOut left) = (left.owner ≡ fold_name left.owner) × IfSome left.ttl (λ ttl. ttl.0 < 2 ^ 31)

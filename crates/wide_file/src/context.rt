@@ -2,15 +2,18 @@
 ghost use Rattle.std.specs.Prelude.{◌≡◌, ◌<◌, ◌^◌, Ok, Err, Some, None, map, ok_or, IfOk, IfErr, OnOk, IfSome};
 ghost use Rattle.std.specs.Option.{option_map};
 ghost use Rattle.master_file.specs.Records.{argument_of, directive_of};
+ghost use Rattle.record_text.specs.Data.{IsToldOf};
 ghost use Rattle.record_text.specs.NameWord.{owner_of};
-ghost use Rattle.wide_file.specs.WideRecords.{after_entry, directed, minimum_ttl, start, ttl_in, IsInForce, IsLawful};
+ghost use Rattle.wide_file.specs.WideRecords.{after_entry, directed, include_of, minimum_ttl, path_of, start, ttl_in, IsInForce, IsLawful};
 ghost use Rattle.wide_text.specs.Times.{ttl_of};
 ghost use Rattle.zone_lexing.specs.Word.{written};
 
-use crate::record_entry::WideEntry;
+use crate::file_path::FilePath;
+use crate::record_entry::{IncludeEntry, WideEntry};
 use dns_name::Name;
 use dns_rdata::{RData, Ttl};
 use record_text::{Cause, owner, surplus};
+use std::alloc::Global;
 use wide_text::wide_ttl;
 use zone_lexing::Word;
 
@@ -83,6 +86,60 @@ impl Context {
         Err(Cause::Directive)
     }
 
+    /// The same with another origin.
+    fn under(&self, origin: Name) -> Context
+        requires in_force { IsInForce self.now }
+        ensures under { result ≡ record self.now { origin = origin } }
+        ensures in_force { IsInForce result }
+    {
+        Context {
+            origin,
+            default_ttl: self.default_ttl,
+            owner: self.owner.as_ref().map(|owner| owner.copy()),
+            ttl: self.ttl,
+        }
+    }
+
+    /// What is in force, once more.
+    pub fn copy(&self) -> Context
+        requires in_force { IsInForce self.now }
+        ensures same { result ≡ self.now }
+        ensures in_force { IsInForce result }
+    {
+        self.under(self.origin.copy())
+    }
+
+    /// The file that a directive `$INCLUDE` names. It begins with what is in force, with the origin after the path where there is one (RFC 1035, 5.1).
+    ///
+    /// `Directive` without a path; `Unclosed` where no word stands; the origin's own fault; `BadData` at a word after it; `NoMemory` where there is none
+    /// for the path.
+    pub fn include(
+        &self,
+        alloc: Global,
+        line: u64,
+        arguments: &[Word<'_>],
+    ) -> Result<IncludeEntry, Cause>
+        requires in_force { IsInForce self.now }
+        ensures lawful { IfOk result (λ own. IsInForce own.context) }
+        ensures included { IfOk result (λ own. include_of self.now line (map written arguments.now) ≡ Ok own) }
+        ensures fault { IfErr result (IsToldOf (include_of self.now line (map written arguments.now))) }
+    {
+        let [path, after @ ..] = arguments else {
+            return Err(Cause::Directive);
+        };
+        let octets = path_of(*path)?;
+        let origin = match after {
+            [] => self.origin.copy(),
+            _ => origin_of(after, &self.origin)?,
+        };
+        let path = FilePath::of(alloc, octets)?;
+        Ok(IncludeEntry {
+            line,
+            path,
+            context: self.under(origin),
+        })
+    }
+
     /// The TTL of a record: its own, else that of `$TTL`, else that of the record before, else an SOA's MINIMUM; `NoTtl` where there is none.
     pub fn ttl(&self, own: Option<Ttl>, rdata: &RData) -> Result<Ttl, Cause>
         requires in_force { IsInForce self.now }
@@ -114,6 +171,7 @@ impl Context {
                 self.owner = Some(left.owner.copy());
                 self.ttl = left.ttl.or(self.ttl);
             }
+            WideEntry::Include(_) => {}
         }
     }
 }
@@ -126,6 +184,17 @@ fn minimum(rdata: &RData) -> Result<Ttl, Cause>
     match rdata.soa() {
         Some(soa) if soa.minimum.0 <= Ttl::MAX.0 => Ok(soa.minimum),
         _ => Err(Cause::NoTtl),
+    }
+}
+
+/// The path that a word is, outside quotes or between two: its octets as they are written.
+pub(crate) fn path_of<'a>(word: Word<'a>) -> Result<&'a [u8], Cause>
+    ensures path { IfOk result (λ path. path_of (written word.entry) ≡ Ok path.now) }
+    ensures fault { IfErr result (λ cause. path_of (written word.entry) ≡ Err cause) }
+{
+    match word {
+        Word::Plain(path) | Word::Quoted(path) => Ok(path),
+        Word::Unclosed => Err(Cause::Unclosed),
     }
 }
 

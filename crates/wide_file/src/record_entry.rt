@@ -1,4 +1,4 @@
-//! The entries of a zone file that are no directives (RFC 1035, 5.1).
+//! The entries of a zone file that change nothing of what is in force (RFC 1035, 5.1).
 ghost use Rattle.std.specs.Prelude.{◌≡◌, ◌<◌, ◌^◌, Ok, Err, map, IfOk, IfErr, IfSome};
 ghost use Rattle.dns_name.specs.Name.{fold_name};
 ghost use Rattle.record_text.specs.Data.{IsToldOf};
@@ -7,6 +7,7 @@ ghost use Rattle.wide_file.specs.WideRecords.{entry_of, entry_with, owned_of, rr
 ghost use Rattle.zone_lexing.specs.Word.{written};
 
 use crate::context::Context;
+use crate::file_path::FilePath;
 use dns_name::Name;
 use dns_rdata::Ttl;
 use master_file::RecordEntry;
@@ -15,13 +16,15 @@ use std::alloc::Global;
 use wide_text::{is_left_out, read_wide_data, read_wide_front};
 use zone_lexing::Word;
 
-/// An entry of a zone file that is no directive.
+/// An entry of a zone file: a record, or a directive that includes a file.
 #[derive(Drop)]
 pub enum WideEntry {
     /// A record.
     Record(RecordEntry),
     /// A record that is left out.
     LeftOut(LeftOut),
+    /// A file that is included.
+    Include(IncludeEntry),
 }
 
 /// A record that is left out: its data isn't read.
@@ -33,6 +36,17 @@ pub struct LeftOut {
     pub owner: Name,
     /// The TTL, in seconds, where it has one.
     pub ttl: Option<Ttl>,
+}
+
+/// A directive `$INCLUDE` (RFC 1035, 5.1).
+#[derive(Drop)]
+pub struct IncludeEntry {
+    /// The line on which its entry begins, counted from 1.
+    pub line: u64,
+    /// The path, as it is written.
+    pub path: FilePath,
+    /// What is in force where the file begins.
+    pub(crate) context: Context,
 }
 
 /// The record that an entry's words stand for: its owner, TTL and class in either order, its type and its data

@@ -3,7 +3,7 @@ ghost use Rattle.std.specs.Prelude.{◌≡◌, ◌<◌, ◌^◌, ◌⊎◌, List
 ghost use Rattle.record_text.specs.Data.{IsToldOf};
 ghost use Rattle.master_file.specs.Fault.{no_memory};
 ghost use Rattle.master_file.specs.Records.{fault_at, IsFirst};
-ghost use Rattle.wide_file.specs.WideRecords.{after_entry, faulty, in_front, judged, nothing, wide_records, IsInForce, IsLawful};
+ghost use Rattle.wide_file.specs.WideRecords.{after_entry, faulty, in_front, judged, nothing, obeyed, records_in, wide_records, IsInForce, IsLawful};
 ghost use Rattle.zone_lexing.specs.Word.{written};
 
 use crate::context::{Context, directive};
@@ -15,7 +15,7 @@ use std::alloc::{AllocError, Global};
 use std::marker::Model;
 use zone_lexing::{Entries, EntryHead, Word};
 
-/// What isn't read yet of a zone file. Contracts see its entries but for directives, up to the first fault, and that fault.
+/// What isn't read yet of a zone file. Contracts see its records and the files that it includes, up to the first fault, and that fault.
 #[derive(Drop)]
 pub struct WideRecords<'a> {
     entries: Entries<'a>,
@@ -38,14 +38,22 @@ impl<'a> WideRecords<'a> {
     pub fn new(alloc: Global, text: &'a [u8], origin: &Name) -> WideRecords<'a>
         ensures { result ≡ wide_records origin.now text.now }
     {
+        WideRecords::within(alloc, text, Context::new(origin))
+    }
+
+    /// All of a text, where this is in force at its start.
+    pub(crate) fn within(alloc: Global, text: &'a [u8], context: Context) -> WideRecords<'a>
+        requires { IsInForce context }
+        ensures { result ≡ records_in context text.now }
+    {
         WideRecords {
             entries: Entries::new(text),
             words: Vec::new(alloc),
-            context: Context::new(origin),
+            context,
         }
     }
 
-    /// The next record, or one that is left out; None after the last. Entries are read in order and the words of each from left to right, and the
+    /// The next record, one that is left out, or a file that is included; None after the last. Entries are read in order and the words of each from left to right, and the
     /// first fault is returned (RFC 1035, 5.1).
     ///
     /// `NoMemory` only where a growth was refused, at line 0. Nothing is said of the entries after a fault.
@@ -71,7 +79,7 @@ impl<'a> WideRecords<'a> {
 
 /// The next entry, with its words in the list that is given; a quote or a parenthesis without its other one stands
 /// after them.
-fn next_entry<'a>(
+pub(crate) fn next_entry<'a>(
     entries: &mut Entries<'a>,
     words: &mut Vec<Word<'a>>,
 ) -> Result<Option<EntryHead>, AllocError>
@@ -103,7 +111,7 @@ fn fault(head: EntryHead, cause: Cause) -> FileFault
     FileFault { line, cause }
 }
 
-/// Reads an entry's words: a directive is put in force, and a record is read; None where there is none.
+/// Reads an entry's words: a directive is put in force, and a record is read, or the file that is included; None where there is none.
 fn judge(
     alloc: Global,
     context: &mut Context,
@@ -117,10 +125,32 @@ fn judge(
     ensures in_force { IsInForce context.new }
 {
     if let Some((directive, arguments)) = directive(head.indented, words) {
-        context.direct(directive, arguments)?;
-        return Ok(None);
+        return obey(alloc, context, head.line, directive, arguments);
     }
     let own = read_entry(alloc, context, head.line, head.indented, words)?;
     context.pass(&own);
     Ok(Some(own))
+}
+
+/// Obeys a directive: one that includes a file is returned, and another one is put in force.
+#[tactic(auto, unfolding(crate::specs::WideRecords::obeyed))]
+fn obey(
+    alloc: Global,
+    context: &mut Context,
+    line: u64,
+    directive: &[u8],
+    arguments: &[Word<'_>],
+) -> Result<Option<WideEntry>, Cause>
+    requires in_force { IsInForce context.old }
+    ensures obeyed { IfOk result (λ found. obeyed context.old line directive.now (map written arguments.now) ≡ Ok (context.new, found)) }
+    ensures lawful { IfOk result (λ found. IfSome found IsLawful) }
+    ensures fault { IfErr result (IsToldOf (obeyed context.old line directive.now (map written arguments.now))) }
+    ensures in_force { IsInForce context.new }
+{
+    if directive.eq_ignore_ascii_case(b"$INCLUDE") {
+        let own = context.include(alloc, line, arguments)?;
+        return Ok(Some(WideEntry::Include(own)));
+    }
+    context.direct(directive, arguments)?;
+    Ok(None)
 }
