@@ -5,7 +5,7 @@
 # listens on 127.0.0.1 alone, and ends what it starts.
 # Usage: [DNSD=PROGRAM] tests/metrics.sh [--port N]
 #   --port N    dnsd listens on N (by default 15463), and for HTTP on the one behind it
-# It needs Debian's packages bind9-dnsutils and curl, and the program that `make dnsd` builds.
+# It needs Debian's packages bind9-dnsutils, curl and python3, and the program that `make dnsd` builds.
 set -euo pipefail
 cd "$(dirname "$0")/.."
 program=${DNSD:-$PWD/crates/dnsd/out/dnsd}
@@ -17,9 +17,9 @@ while [ $# -gt 0 ]; do
     esac
 done
 [ -x "$program" ] || { echo "metrics: no program at $program: run make dnsd first" >&2; exit 2; }
-for command in dig nsupdate curl; do
+for command in dig nsupdate curl python3; do
     command -v "$command" >/dev/null || {
-        echo "metrics: no $command: it needs Debian's bind9-dnsutils and curl" >&2
+        echo "metrics: no $command: it needs Debian's bind9-dnsutils, curl and python3" >&2
         exit 2
     }
 done
@@ -35,7 +35,7 @@ zone="$work/zone"
 
 # The samples, those of the octets apart.
 samples() {
-    curl -fsS "http://$web/metrics" | grep -v '^#' | grep -v '_bytes_total\|_seconds\|^process_'
+    curl -fsS "http://$web/metrics" | grep -v '^#' | grep -v '_bytes\|_seconds\|^process_'
 }
 
 # The number of a sample.
@@ -170,6 +170,10 @@ dnsd_transfers_total{type=\"IXFR\",result=\"incremental\"} 1
 dnsd_connections_opened_total 1
 dnsd_connections_ended_total{reason=\"done\"} 1" ask example.test IXFR=1
 
+# Each of the three updates has a time, and all of them took some, and less than three seconds.
+check 'times of updates' 3 "$(sample dnsd_update_seconds_count)"
+check 'how long they took' yes "$(sample dnsd_update_seconds_sum | awk '{ print ($1 > 0 && $1 < 3 ? "yes" : $1) }')"
+
 # Puts octets in hexadecimal into a datagram.
 datagram() {
     printf "$(sed 's/../\\x&/g' <<<"$1")" >"/dev/udp/127.0.0.1/$port"
@@ -178,6 +182,10 @@ datagram() {
 counts 'a reply, which gets none' "$udp
 $query
 dnsd_dropped_total 1" datagram 000180000000000000000000
+
+counts 'what a zone is told of by who is no secondary' "$udp
+dnsd_requests_total{opcode=\"NOTIFY\"} 1
+dnsd_responses_total{rcode=\"NOTIMP\"} 1" ask +opcode=notify example.test SOA
 
 # What is there by HTTP.
 told() { curl -sS -o "$work/body" -w '%{http_code} %{content_type}' "$@"; }
@@ -215,6 +223,117 @@ dnsd_requests_total{opcode=\"UPDATE\"} 1
 dnsd_responses_total{rcode=\"REFUSED\"} 1
 dnsd_updates_total{rcode=\"REFUSED\"} 1
 dnsd_updates_refused_total{reason=\"permission\"} 1" update 'update add new.example.test 300 A 192.0.2.77'
+
+# IPv6.
+unserve
+serve "$zone" --metrics "$web" --listen "[::1]:$port"
+counts 'by IPv6' "dnsd_queries_total{transport=\"udp\",family=\"6\"} 1
+$query
+dnsd_query_types_total{type=\"A\"} 1
+$noerror" dig +tries=1 +time=3 @::1 -p "$port" web.example.test A
+counts 'by IPv6 and TCP' "dnsd_queries_total{transport=\"tcp\",family=\"6\"} 1
+$query
+dnsd_query_types_total{type=\"A\"} 1
+$noerror
+dnsd_connections_opened_total 1
+dnsd_connections_ended_total{reason=\"done\"} 1" dig +tcp +tries=1 +time=3 @::1 -p "$port" web.example.test A
+
+# Keys.
+right=$(head -c 32 /dev/zero | base64)
+wrong=$(head -c 32 /dev/zero | tr '\0' '\1' | base64)
+printf 'key "told.example." { algorithm hmac-sha256; secret "%s"; };\n' "$right" >"$work/keys"
+chmod 600 "$work/keys"
+unserve
+serve "$zone" --metrics "$web" --keys "$work/keys" --may 'key told.example: update, transfer'
+counts 'an update by a key' "$udp
+dnsd_requests_total{opcode=\"UPDATE\"} 1
+$noerror
+dnsd_updates_total{rcode=\"NOERROR\"} 1
+dnsd_updates_changed_total 1
+dnsd_zone_serial{zone=\"example.test.\"} 1
+dnsd_zone_records{zone=\"example.test.\"} 1
+dnsd_zone_versions_total{zone=\"example.test.\"} 1" update 'update add new.example.test 300 A 192.0.2.77' -y "hmac-sha256:told.example.:$right"
+check 'its time' 1 "$(sample dnsd_update_seconds_count)"
+counts 'an update whose signature is wrong' "$udp
+dnsd_requests_total{opcode=\"UPDATE\"} 1
+dnsd_responses_total{rcode=\"NOTAUTH\"} 1
+dnsd_updates_total{rcode=\"NOTAUTH\"} 1
+dnsd_updates_refused_total{reason=\"signature\"} 1" update 'update add new.example.test 300 A 192.0.2.78' -y "hmac-sha256:told.example.:$wrong"
+counts 'an update by a key over TCP' "$tcp
+dnsd_requests_total{opcode=\"UPDATE\"} 1
+$noerror
+dnsd_updates_total{rcode=\"NOERROR\"} 1
+dnsd_updates_changed_total 1
+dnsd_connections_opened_total 1
+dnsd_connections_ended_total{reason=\"done\"} 1
+dnsd_zone_serial{zone=\"example.test.\"} 1
+dnsd_zone_records{zone=\"example.test.\"} 1
+dnsd_zone_versions_total{zone=\"example.test.\"} 1" update 'update add tcp.example.test 300 A 192.0.2.79' -v -y "hmac-sha256:told.example.:$right"
+check 'the times of the three' 3 "$(sample dnsd_update_seconds_count)"
+
+# While one worker is busy with queries, scrapes answer, no counter falls, and at the end all are counted.
+unserve
+mkdir "$work/store"
+workers=1 serve "$zone" --metrics "$web" --store "$work/store"
+python3 - "$port" "$web" >"$work/busy" <<'P'
+import re, socket, sys, threading, urllib.request
+port, web = int(sys.argv[1]), sys.argv[2]
+query = bytes.fromhex("000701000001000000000000") + b"\3web\7example\4test\0\0\1\0\1"
+ROUNDS, EACH = 600, 32
+last, faults, scrapes = {}, [], 0
+done = threading.Event()
+def scrape():
+    global scrapes
+    with urllib.request.urlopen(f"http://{web}/metrics", timeout=5) as page:
+        text = page.read().decode()
+    scrapes += 1
+    for line in text.splitlines():
+        name, number = line.rsplit(" ", 1)
+        if re.match(r"[a-z_]*(_total|_count|_sum|_bucket)\b", name):
+            if float(number) < last.get(name, 0): faults.append(name)
+            last[name] = float(number)
+def watch():
+    while not done.is_set(): scrape()
+watcher = threading.Thread(target=watch)
+watcher.start()
+with socket.socket(socket.AF_INET, socket.SOCK_DGRAM) as it:
+    it.connect(("127.0.0.1", port))
+    it.settimeout(5)
+    for _ in range(ROUNDS):
+        for _ in range(EACH): it.send(query)
+        for _ in range(EACH): it.recv(4096)
+done.set()
+watcher.join()
+threading.Event().wait(0.2)
+scrape()
+sent = ROUNDS * EACH
+print("scrapes", "many" if scrapes > 10 else scrapes)
+print("fell", *sorted(set(faults)))
+for name in ('dnsd_queries_total{transport="udp",family="4"}', 'dnsd_query_types_total{type="A"}', 'dnsd_responses_total{rcode="NOERROR"}'):
+    print(name, "all" if last[name] == sent else last[name])
+print("octets", "all" if last["dnsd_received_bytes_total"] == sent * len(query) else last["dnsd_received_bytes_total"])
+P
+check 'a busy worker' 'scrapes many
+fell
+dnsd_queries_total{transport="udp",family="4"} all
+dnsd_query_types_total{type="A"} all
+dnsd_responses_total{rcode="NOERROR"} all
+octets all' "$(cat "$work/busy")"
+check 'the store' 'store ok' "$(curl -fsS "http://$web/" | grep -o 'store [a-z]*' | head -1)"
+journal=$(sample dnsd_store_journal_bytes)
+check 'it takes writes' 0 "$(sample dnsd_store_failing)"
+counts 'an update that is stored' "$udp
+dnsd_requests_total{opcode=\"UPDATE\"} 1
+$noerror
+dnsd_updates_total{rcode=\"NOERROR\"} 1
+dnsd_updates_changed_total 1
+dnsd_store_batches_total 1
+dnsd_store_batch_updates_total 1
+dnsd_zone_serial{zone=\"example.test.\"} 1
+dnsd_zone_records{zone=\"example.test.\"} 1
+dnsd_zone_versions_total{zone=\"example.test.\"} 1" update 'update add new.example.test 300 A 192.0.2.77'
+
+check 'its journal' longer "$([ "$(sample dnsd_store_journal_bytes)" -gt "$journal" ] && echo longer)"
 
 unserve
 serve "$zone"
