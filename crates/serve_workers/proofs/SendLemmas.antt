@@ -82,10 +82,31 @@ signing_send a = signed_messages_send a transfer.the_row transfer_send
 
 job_send : (a : NamedLft) (C : RattleType) → IsSync C → IsSend (job.the_field a C).row
 job_send a C ticks =
-    enum_send (enum.shape (job.the_type a C))
-    ((udp_field_send a no_counts.the_row no_counts_send, tt), ((tcp_send a transfer.the_row C _ transfer_send ticks, tt), ((signed_send a _ C (udp_send a no_counts.the_row no_counts_send) ticks, tt), ((signed_send a _ C (tcp_row_send a (signed_messages.the_row a transfer.the_row) C (signed_sending.ghosts transfer.the_row sending.ghosts signed_sending.no_dict signed_sending.no_dict) (signing_send a) ticks) ticks, tt),
-    ((udp_field_send a (counts.the_row a C) (counts_send a C ticks), tt), ((counted_send a _ C (tcp_row_send a (counted_messages.the_row a transfer.the_row) C _ (counted_messages_send a transfer.the_row transfer_send) ticks) ticks, tt), ((signed_send a _ C (udp_send a (counts.the_row a C) (counts_send a C ticks)) ticks, tt), ((signed_send a _ C (counted_row_send a _ C (tcp_row_send a (counted_messages.the_row a (signed_messages.the_row a transfer.the_row)) C _ (counted_messages_send a (signed_messages.the_row a transfer.the_row) (signing_send a)) ticks) ticks) ticks, tt),
-    ((telling_send a C ticks, tt), ((control_send a C ticks, tt), ((metrics_send a C ticks, tt), tt)))))))))))
+    enum_send (enum.shape (job.the_type a C)) (
+      (udp_field_send a no_counts.the_row no_counts_send, tt),
+      (
+        (tcp_send a transfer.the_row C _ transfer_send ticks, tt),
+        (
+          (signed_send a _ C (udp_send a no_counts.the_row no_counts_send) ticks, tt),
+          (
+            (signed_send a _ C (tcp_row_send a (signed_messages.the_row a transfer.the_row) C (signed_sending.ghosts transfer.the_row sending.ghosts signed_sending.no_dict signed_sending.no_dict) (signing_send a) ticks) ticks, tt),
+            (
+              (udp_field_send a (counts.the_row a C) (counts_send a C ticks), tt),
+              (
+                (counted_send a _ C (tcp_row_send a (counted_messages.the_row a transfer.the_row) C (counted_sending.ghosts transfer.the_row sending.ghosts counted_sending.no_dict counted_sending.no_dict) (counted_messages_send a transfer.the_row transfer_send) ticks) ticks, tt),
+                (
+                  (signed_send a _ C (udp_send a (counts.the_row a C) (counts_send a C ticks)) ticks, tt),
+                  (
+                    (signed_send a _ C (counted_row_send a _ C (tcp_row_send a (counted_messages.the_row a (signed_messages.the_row a transfer.the_row)) C (counted_sending.ghosts (signed_messages.the_row a transfer.the_row) (signed_sending.ghosts transfer.the_row sending.ghosts signed_sending.no_dict signed_sending.no_dict) counted_sending.no_dict counted_sending.no_dict) (counted_messages_send a (signed_messages.the_row a transfer.the_row) (signing_send a)) ticks) ticks) ticks, tt),
+                    ((telling_send a C ticks, tt), ((control_send a C ticks, tt), ((metrics_send a C ticks, tt), tt))),
+                  ),
+                ),
+              ),
+            ),
+          ),
+        ),
+      ),
+    )
 
 pub thread_send : (a b : NamedLft) (T N L C : RattleType) (g : Ghosts T.Denot) (n : naming.Ghosts N.Denot) (s : server_names.Ghosts N.Denot) → IsSync L → IsSync C → IsSend (thread.the_row a b T N L C n g s)
 thread_send a b T N L C g n s hears ticks =

@@ -2,6 +2,8 @@
 ghost use Rattle.std.specs.Prelude.{◌≡◌, Some, map};
 ghost use Rattle.requests.specs.Served.{BeginsWith};
 ghost use Rattle.serve_workers.specs.Numbers.{number_of, end_of};
+ghost use Rattle.tcp_connections.specs.Asked.{EachGrows};
+ghost use Rattle.zone_tree.specs.Version.{Version};
 
 use crate::counted_jobs::CountedJob;
 use crate::signed_jobs::SignedJob;
@@ -19,6 +21,7 @@ use std::alloc::Global;
 use std::marker::Brand;
 use std::sync::Wait;
 use std::time::Clock;
+use tcp_connections::{Handler, Messages};
 use worker_jobs::{ConnectionsJob, DatagramsJob, NotifyJob, WorkerSocket, nobody};
 use zone_replies::{ConnectionHandler, Transfer};
 use zone_server::{
@@ -115,6 +118,23 @@ fn serve_connections<'g, 's, R: Wait, Z: FirstZone, N: ServerName, L: ServiceLog
     (handler.into_reader(), end)
 }
 
+/// Does a job on connections with a handler, and counts the requests. Gives the handler back, and how the job ended.
+fn serve_counting<'g, R: Wait, M: Messages, A: Handler<M> + Drop, L: ServiceLog, C: Clock>(
+    rt: &R,
+    log: &'g L,
+    handler: A,
+    counts: ThreadCounts<'g, C>,
+    job: &mut TcpJob<'g, CountedMessages<'g, M>, C>,
+) -> (A, JobEnd)
+    ensures number { job.new.number ≡ job.old.number }
+    ensures grows { EachGrows {T = Version} (A.seen result.0) (A.seen handler) }
+    ensures end { job.new.end ≡ Some result.1 }
+{
+    let mut counting = CountingConnections::new(handler, counts, nobody());
+    let end = job.serve(rt, &mut counting, log);
+    (counting.into_inner(), end)
+}
+
 /// Does a job on connections whose requests are counted, as [`serve_connections`] does.
 fn serve_counted_connections<'g, 's, R: Wait, Z: FirstZone, N: ServerName, L: ServiceLog, C: Clock>(
     rt: &R,
@@ -134,9 +154,8 @@ fn serve_counted_connections<'g, 's, R: Wait, Z: FirstZone, N: ServerName, L: Se
     let handler = handler.with_rules(counted.job.allowed());
     let handler = handler.with_sender(sender);
     let counts = ThreadCounts::new(counted.shown, counted.clock);
-    let mut handler = CountingConnections::new(handler, counts, nobody());
-    let end = counted.job.serve(rt, &mut handler, log);
-    (handler.into_inner().into_reader(), end)
+    let (handler, end) = serve_counting(rt, log, handler, counts, &mut counted.job);
+    (handler.into_reader(), end)
 }
 
 /// Does a job on a UDP socket whose requests may be signed, as [`serve_datagrams`] does.
@@ -277,9 +296,8 @@ fn serve_counted_signed<
         nobody(),
     );
     let counts = ThreadCounts::new(signed.job.shown, signed.job.clock);
-    let mut handler = CountingConnections::new(handler, counts, nobody());
-    let end = signed.job.job.serve(rt, &mut handler, log);
-    (handler.into_inner().into_inner().into_reader(), end)
+    let (handler, end) = serve_counting(rt, log, handler, counts, &mut signed.job.job);
+    (handler.into_inner().into_reader(), end)
 }
 
 /// Does a job that notifies secondaries, with a handler that loads versions for it by a reader. Gives the reader back, and how the job ended.

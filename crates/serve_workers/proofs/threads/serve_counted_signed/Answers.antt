@@ -9,8 +9,8 @@ use Rattle.serve_workers.proofs.threads.serve_counted_signed.Goals as goal
 
 pub returns-clause-seen : goal.returns-clause-seen
 returns-clause-seen g c =
-    let before = c.new-handler-3.result.inner.inner in
-    let after = c.serve-end.new.handler.inner.inner in
-    subst (λ (r : ReaderState Version). BeginsWith r.seen c.args.reader.seen) (sym (c.into_reader.ensures ∙ ap (λ (h : HandlerState). h.reader) (c.into_inner-2.ensures ∙ ap (λ s. s.inner) c.into_inner.ensures)))
-    (subst (λ (r : ReaderState Version). BeginsWith after.reader.seen r.seen) (ap (λ (h : HandlerState). h.reader) (ap (λ s. s.inner) c.new-handler-3.ensures ∙ c.new-handler-2.ensures.inner) ∙ (c.with_sender-handler.ensures.reader ∙ c.new-handler.ensures.reader))
-    (reader_grows before.taken after.taken before.reader after.reader c.serve-end.ensures.grows).published)
+    let before = c.new-handler-2.result.inner in
+    let after = c.serve_counting-handler.result.0.inner in
+    subst (λ (r : ReaderState Version). BeginsWith r.seen c.args.reader.seen) (sym (c.into_reader.ensures ∙ ap (λ (h : HandlerState). h.reader) c.into_inner.ensures))
+    (subst (λ (r : ReaderState Version). BeginsWith after.reader.seen r.seen) (ap (λ (h : HandlerState). h.reader) c.new-handler-2.ensures.inner ∙ (c.with_sender-handler.ensures.reader ∙ c.new-handler.ensures.reader))
+    (reader_grows before.taken after.taken before.reader after.reader c.serve_counting-handler.ensures.grows).published)
