@@ -1,10 +1,10 @@
 //! What is counted and told of a running server: the socket for metrics, and the counters of its threads.
 use crate::control::NotBound;
-use command_line::{Serve, VERSION};
+use command_line::Serve;
 use counters::ServerCounters;
 use dnsd_setup::{StartedZone, bind_metrics};
 use log_lines::RecentLines;
-use server_control::{About, MetricsPlan, ProcessFiles, UdpDrops};
+use server_control::{MetricsPlan, ProcessFiles, UdpDrops};
 use signed_replies::{SystemClock, UnixClock};
 use std::alloc::{AllocError, Global};
 use std::fs::{File, Files};
@@ -14,12 +14,9 @@ use std::rt::Env;
 use std::sync::Arc;
 use std::time::Clock;
 
-/// What the server is, which starts now.
-pub fn about<R: Clock>(rt: &R) -> About {
-    About {
-        program: VERSION,
-        started: SystemClock::new(rt).now(),
-    }
+/// When a server is started that starts now, in seconds since 1970.
+pub fn started<R: Clock>(rt: &R) -> u64 {
+    SystemClock::new(rt).now()
 }
 
 /// How many threads of the server answer no requests.
@@ -86,7 +83,7 @@ pub fn metrics_for<R: Files<File = File> + Net + Env + Eprint + AllocGlobal + Cl
             lines: Arc::new(rt.alloc(), RecentLines::new(rt.alloc(), LINES))?,
             beside: beside_of(serve),
             store: None,
-            about: about(rt),
+            started: started(rt),
         }))),
         Ok(None) => Ok(Err(NotBound)),
         Err(fault) => Err(fault),

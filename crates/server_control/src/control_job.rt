@@ -5,7 +5,7 @@ ghost use Rattle.requests.specs.Served.{Grows};
 use crate::control_reload::{Reload, Step, after_judging, after_making, order};
 use crate::control_text::{ServedSince, StoreStatus, done, failed, stats, status};
 use crate::reload_slot::{ReloadOrder, Reloads};
-use crate::served_facts::{About, RecordCount, metrics_of, store_facts};
+use crate::served_facts::{RecordCount, metrics_of, store_facts};
 use crate::shutdown::Shutdown;
 use control_socket::{ControlClient, ControlCommand, Heard, accept_client};
 use counters::ServerCounters;
@@ -36,8 +36,8 @@ pub struct ControlPlan {
     pub first: u64,
     /// What is seen of the store; None where there is none.
     pub store: Option<SharedStoreState>,
-    /// What the server is.
-    pub about: About,
+    /// When the server was started, in seconds since 1970.
+    pub started: u64,
 }
 
 impl Drop for ControlPlan {
@@ -48,7 +48,7 @@ impl Drop for ControlPlan {
             beside: _,
             first: _,
             store: _,
-            about: _,
+            started: _,
         } = self;
     }
 }
@@ -65,9 +65,8 @@ pub struct ControlJob<'a, C> {
     reload: Reload,
     clock: &'a C,
     shutdown: &'a Shutdown,
-    /// When it was made, in milliseconds of a monotonic clock, and in seconds since 1970.
+    /// When it was made, in milliseconds of a monotonic clock.
     begun: u64,
-    started: u64,
     records: RecordCount,
     obeyed: u64,
     end: Option<JobEnd>,
@@ -85,7 +84,6 @@ impl<'a, C> Drop for ControlJob<'a, C> {
             clock: _,
             shutdown: _,
             begun: _,
-            started: _,
             records: _,
             obeyed: _,
             end: _,
@@ -114,7 +112,6 @@ impl<'a, C: Clock> ControlJob<'a, C> {
     ) -> Result<ControlJob<'a, C>, AllocError>
         ensures { IfOk result (λ job. job.number ≡ number) }
     {
-        let started = plan.about.started;
         Ok(ControlJob {
             number,
             alloc,
@@ -125,7 +122,6 @@ impl<'a, C: Clock> ControlJob<'a, C> {
             clock,
             shutdown,
             begun: millis_of(clock),
-            started,
             records: RecordCount::new(),
             obeyed: 0,
             end: None,
@@ -310,7 +306,7 @@ impl<'a, C: Clock> ControlJob<'a, C> {
         ensures number { self.new.number ≡ self.old.number }
     {
         let records = self.records.of(version);
-        let (about, started) = (self.plan.about, self.started);
+        let started = self.plan.started;
         let store = store_facts(rt, self.alloc, &self.plan.store)?;
         let lines = match self.counters {
             Some(server) => {
@@ -318,7 +314,6 @@ impl<'a, C: Clock> ControlJob<'a, C> {
                 let sum = server.sum(rt, &mut rounds);
                 metrics_of(
                     self.alloc,
-                    about,
                     started,
                     version,
                     records,
@@ -326,7 +321,7 @@ impl<'a, C: Clock> ControlJob<'a, C> {
                     store,
                 )?
             }
-            None => metrics_of(self.alloc, about, started, version, records, None, store)?,
+            None => metrics_of(self.alloc, started, version, records, None, store)?,
         };
         stats(self.alloc, &lines)
     }

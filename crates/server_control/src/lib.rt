@@ -25,6 +25,5 @@ pub use metrics_job::{MetricsJob, MetricsPlan};
 pub use process_files::ProcessFiles;
 pub use reload_slot::{FileChange, FileZone, ReloadOrder, ReloadResult, ReloadSlot, Reloads};
 pub use serve_fault::ServeFault;
-pub use served_facts::About;
 pub use shutdown::Shutdown;
 pub use udp_drops::UdpDrops;

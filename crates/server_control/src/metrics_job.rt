@@ -5,7 +5,7 @@ ghost use Rattle.requests.specs.Served.{Grows};
 use crate::metrics_client::{MetricsClient, accept_client};
 use crate::process_files::ProcessFiles;
 use crate::rates::{Rates, is_due};
-use crate::served_facts::{About, RecordCount, metrics_of, put_drops, put_process, store_facts};
+use crate::served_facts::{RecordCount, metrics_of, put_drops, put_process, store_facts};
 use crate::shutdown::Shutdown;
 use crate::thread_rounds::ThreadRounds;
 use crate::udp_drops::UdpDrops;
@@ -52,8 +52,8 @@ pub struct MetricsPlan {
     pub beside: usize,
     /// What is seen of the store; None where there is none.
     pub store: Option<SharedStoreState>,
-    /// What the server is.
-    pub about: About,
+    /// When the server was started, in seconds since 1970.
+    pub started: u64,
 }
 
 impl Drop for MetricsPlan {
@@ -65,7 +65,7 @@ impl Drop for MetricsPlan {
             lines: _,
             beside: _,
             store: _,
-            about: _,
+            started: _,
         } = self;
     }
 }
@@ -80,9 +80,8 @@ pub struct MetricsJob<'a, C> {
     clients: Vec<MetricsClient>,
     clock: &'a C,
     shutdown: &'a Shutdown,
-    /// When it was made, in milliseconds of a monotonic clock, and in seconds since 1970.
+    /// When it was made, in milliseconds of a monotonic clock.
     begun: u64,
-    started: u64,
     records: RecordCount,
     threads: ThreadRounds,
     /// When it was last looked whether the threads go round.
@@ -106,7 +105,6 @@ impl<'a, C> Drop for MetricsJob<'a, C> {
             clock: _,
             shutdown: _,
             begun: _,
-            started: _,
             records: _,
             threads: _,
             looked_at: _,
@@ -132,7 +130,6 @@ impl<'a, C: Clock> MetricsJob<'a, C> {
         ensures { IfOk result (λ job. job.number ≡ number) }
     {
         let begun = millis_of(clock);
-        let started = plan.about.started;
         Ok(MetricsJob {
             number,
             alloc,
@@ -142,7 +139,6 @@ impl<'a, C: Clock> MetricsJob<'a, C> {
             clock,
             shutdown,
             begun,
-            started,
             records: RecordCount::new(),
             threads: ThreadRounds::new(alloc),
             looked_at: 0,
@@ -339,9 +335,9 @@ impl<'a, C: Clock> MetricsJob<'a, C> {
             Some((server, sum)) => Some((*server, sum)),
             None => None,
         };
-        let (alloc, about) = (self.alloc, self.plan.about);
+        let (alloc, started) = (self.alloc, self.plan.started);
         let store = store_facts(rt, alloc, &self.plan.store)?;
-        let mut body = metrics_of(alloc, about, self.started, version, records, counted, store)?;
+        let mut body = metrics_of(alloc, started, version, records, counted, store)?;
         let drops = self.plan.drops.read(alloc)?;
         if let Some(drops) = &drops {
             put_drops(alloc, &mut body, drops.as_slice())?;

@@ -1,4 +1,5 @@
 //! What a server tells of itself, for Prometheus.
+use command_line::VERSION;
 use counters::{Counters, ServerCounters};
 use metric_families::{
     Drops, Facts, ProcessFacts, SecondaryFacts, StoreFacts, counter_families, drop_families,
@@ -9,15 +10,6 @@ use std::alloc::{AllocError, Global};
 use std::sync::Wait;
 use update_batches::SharedStoreState;
 use zone_tree::{Version, Zone, ZoneRead};
-
-/// What a server is.
-#[derive(Clone, Copy)]
-pub struct About {
-    /// The program's version.
-    pub program: &'static str,
-    /// When it was started, in seconds since 1970.
-    pub started: u64,
-}
 
 /// How many records the last version has that they were counted of.
 #[derive(Clone, Copy)]
@@ -48,7 +40,6 @@ impl RecordCount {
 /// What is told of a server with its version that was published last, and of its store, if it has one.
 pub(crate) fn metrics_of(
     alloc: Global,
-    about: About,
     started: u64,
     version: &Version,
     records: u64,
@@ -58,7 +49,7 @@ pub(crate) fn metrics_of(
     let zone = version.zone();
     let apex = zone.apex().to_text();
     let facts = Facts {
-        version: about.program,
+        version: VERSION,
         started,
         zone: apex.as_str(),
         serial: zone.serial().0,
