@@ -1,5 +1,5 @@
 -- A family to which a sample is put for each of a list.
-use Rattle.std.proofs.Common.{◌≡◌, ℕ, ◌+◌, ◌<◌, List, [], ◌∷◌, ◌++◌, map, drop, length, get_or, ap, ◌∙◌, sym}
+use Rattle.std.proofs.Common.{◌≡◌, ℕ, ◌+◌, ◌<◌, List, [], ◌∷◌, map, drop, length, get_or, ap, ◌∙◌, sym}
 use Rattle.std.proofs.lemmas.List.{append_assoc, drop_more}
 use Rattle.metrics_text.specs.Families.{FamilyOf, with_sample, with_samples}
 use Rattle.metrics_text.specs.Samples.{SampleOf}

@@ -1,14 +1,15 @@
 -- What is told of the numbers that a server's threads count.
-use Rattle.std.specs.Prelude.{ℕ, ◌+◌, ◌-◌, ◌^◌, List, [], ◌∷◌, codes, map, min}
-use Rattle.metrics_text.specs.declared.family.Kind.TheVariants.{Counter as counter}
+use Rattle.std.specs.Prelude.{ℕ, ◌+◌, ◌-◌, ◌^◌, Bool, true, false, List, [], ◌∷◌, ◌++◌, codes, map, min}
+use Rattle.metrics_text.specs.declared.family.Kind.TheVariants.{Counter as counter, Gauge as gauge}
 use Rattle.metrics_text.specs.Families.{FamilyOf, empty_family, with_samples}
 use Rattle.metrics_text.specs.Samples.{SampleOf}
-use Rattle.counters.specs.declared.counter.Counter.TheVariants.{Request, Opcode, Question, Reply, Update, UpdateRefused, Transfer, ConnectionEnded}
+use Rattle.counters.specs.declared.counter.Counter.TheVariants.{Request, Opcode, Question, Reply, Truncated, Dropped, ReceivedOctets, SentOctets, Update, UpdateChanged, UpdateRefused, Transfer, ConnectionOpened, ConnectionEnded, StoreBatch, StoreUpdate, StoreCompaction}
 use Rattle.counters.specs.declared.transport.Transport.{Transport}
 use Rattle.counters.specs.declared.transport.Transport.TheVariants.{Udp, Tcp}
 use Rattle.counters.specs.declared.address_family.AddressFamily.{AddressFamily}
 use Rattle.counters.specs.declared.address_family.AddressFamily.TheVariants.{V4, V6}
 use Rattle.counters.specs.declared.connection_end.ConnectionEnd.{ConnectionEnd}
+use Rattle.counters.specs.declared.counters.Counters.{Counters}
 use Rattle.counters.specs.Counters.{number_of}
 use Rattle.counters.specs.Opcodes.{all_opcodes, opcode_word}
 use Rattle.counters.specs.Qtypes.{all_qtypes, qtype_word}
@@ -19,7 +20,8 @@ use Rattle.counters.specs.Transports.{transport_word}
 use Rattle.counters.specs.AddressFamilies.{address_family_word}
 use Rattle.counters.specs.ConnectionEnds.{all_connection_ends, connection_end_word}
 use Rattle.metric_families.specs.Samples.{two_labels}
-use Rattle.metric_families.specs.Told.{labelled_family, pair_family}
+use Rattle.metric_families.specs.Times.{times_family}
+use Rattle.metric_families.specs.Told.{labelled_family, pair_family, plain_family}
 
 -- the ways by which requests come
 abbrev pub all_ways : List (Transport × AddressFamily)
@@ -69,3 +71,52 @@ ended_by before numbers (reason ∷ reasons) = ended_by (min (before + number_of
 -- how many have ended
 abbrev pub ended_in : List ℕ → ℕ
 ended_in numbers = ended_by 0 numbers all_connection_ends
+
+-- what is told of requests
+abbrev pub requests_told : List ℕ → List FamilyOf
+requests_told numbers =
+    queries numbers ∷ (opcodes numbers ∷ (qtypes numbers
+    ∷ (plain_family (codes "dnsd_received_bytes_total") (codes "Bytes of requests") counter (number_of ReceivedOctets numbers)
+    ∷ (plain_family (codes "dnsd_dropped_total") (codes "Requests without a reply") counter (number_of Dropped numbers) ∷ []))))
+
+-- of replies
+abbrev pub replies_told : List ℕ → List FamilyOf
+replies_told numbers =
+    rcodes numbers
+    ∷ (plain_family (codes "dnsd_truncated_total") (codes "Replies that are truncated") counter (number_of Truncated numbers)
+    ∷ (plain_family (codes "dnsd_sent_bytes_total") (codes "Bytes of replies") counter (number_of SentOctets numbers) ∷ []))
+
+-- of updates
+abbrev pub updates_told : Counters → List FamilyOf
+updates_told sum =
+    update_rcodes sum.numbers
+    ∷ (plain_family (codes "dnsd_updates_changed_total") (codes "Updates that changed the zone") counter (number_of UpdateChanged sum.numbers)
+    ∷ (refusals sum.numbers ∷ (times_family (codes "dnsd_update_seconds") (codes "How long updates took until their reply") sum.updates ∷ [])))
+
+-- of connections: as many are open as were opened and haven't ended
+abbrev pub connections_told : List ℕ → List FamilyOf
+connections_told numbers =
+    plain_family (codes "dnsd_connections") (codes "TCP connections that are open") gauge (number_of ConnectionOpened numbers - ended_in numbers)
+    ∷ (plain_family (codes "dnsd_connections_opened_total") (codes "TCP connections that were opened") counter (number_of ConnectionOpened numbers)
+    ∷ (connection_ends numbers ∷ []))
+
+-- of what a store wrote
+abbrev pub store_told : Counters → List FamilyOf
+store_told sum =
+    times_family (codes "dnsd_store_fsync_seconds") (codes "How long writes of a batch took") sum.syncs
+    ∷ (plain_family (codes "dnsd_store_batches_total") (codes "Batches of updates that the store wrote") counter (number_of StoreBatch sum.numbers)
+    ∷ (plain_family (codes "dnsd_store_batch_updates_total") (codes "Updates of these batches") counter (number_of StoreUpdate sum.numbers)
+    ∷ (plain_family (codes "dnsd_store_compactions_total") (codes "Compactions of the store") counter (number_of StoreCompaction sum.numbers) ∷ [])))
+
+-- what is told of a store if there is one
+abbrev pub stored_told : Bool → Counters → List FamilyOf
+stored_told true sum = store_told sum
+stored_told false sum = []
+
+-- what is told of a server's threads
+abbrev pub threads_told : Counters → List FamilyOf
+threads_told sum = requests_told sum.numbers ++ (replies_told sum.numbers ++ (updates_told sum ++ (transfers sum.numbers ∷ connections_told sum.numbers)))
+
+-- and of its store if it has one
+abbrev pub counted_told : Counters → Bool → List FamilyOf
+counted_told sum has_store = threads_told sum ++ stored_told has_store sum

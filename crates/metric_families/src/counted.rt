@@ -1,7 +1,7 @@
 //! What the threads of a server count.
-ghost use Rattle.std.specs.Prelude.{◌≡◌, IfOk, OnOk};
+ghost use Rattle.std.specs.Prelude.{◌≡◌, ◌++◌, IfOk, OnOk};
 ghost use Rattle.metrics_text.specs.Families.{with_sample};
-ghost use Rattle.metric_families.specs.Counted.{queries, way_sample, opcodes, qtypes, rcodes, update_rcodes, refusals, transfers, connection_ends, ended_in};
+ghost use Rattle.metric_families.specs.Counted.{counted_told, requests_told, replies_told, updates_told, connections_told, store_told, queries, way_sample, opcodes, qtypes, rcodes, update_rcodes, refusals, transfers, connection_ends, ended_in};
 
 use crate::kinds::{COUNTER, GAUGE};
 use crate::single::{put_labelled, put_of_two, single};
@@ -19,7 +19,9 @@ pub fn counter_families(
     families: &mut Vec<Family>,
     sum: &Counters,
     has_store: bool,
-) -> Result<(), AllocError> {
+) -> Result<(), AllocError>
+    ensures { OnOk result (families.new.items ≡ families.old.items ++ counted_told sum.now has_store) }
+{
     put_requests(alloc, families, sum)?;
     put_replies(alloc, families, sum)?;
     put_updates(alloc, families, sum)?;
@@ -32,11 +34,9 @@ pub fn counter_families(
 }
 
 /// Puts the families of requests after others.
-fn put_requests(
-    alloc: Global,
-    families: &mut Vec<Family>,
-    sum: &Counters,
-) -> Result<(), AllocError> {
+fn put_requests(alloc: Global, families: &mut Vec<Family>, sum: &Counters) -> Result<(), AllocError>
+    ensures { OnOk result (families.new.items ≡ families.old.items ++ requests_told sum.now.numbers) }
+{
     families.push(queries(alloc, sum)?)?;
     families.push(opcodes(alloc, sum)?)?;
     families.push(qtypes(alloc, sum)?)?;
@@ -58,11 +58,9 @@ fn put_requests(
 }
 
 /// Puts the families of replies after others.
-fn put_replies(
-    alloc: Global,
-    families: &mut Vec<Family>,
-    sum: &Counters,
-) -> Result<(), AllocError> {
+fn put_replies(alloc: Global, families: &mut Vec<Family>, sum: &Counters) -> Result<(), AllocError>
+    ensures { OnOk result (families.new.items ≡ families.old.items ++ replies_told sum.now.numbers) }
+{
     families.push(rcodes(alloc, sum)?)?;
     families.push(single(
         alloc,
@@ -82,11 +80,9 @@ fn put_replies(
 }
 
 /// Puts the families of updates after others.
-fn put_updates(
-    alloc: Global,
-    families: &mut Vec<Family>,
-    sum: &Counters,
-) -> Result<(), AllocError> {
+fn put_updates(alloc: Global, families: &mut Vec<Family>, sum: &Counters) -> Result<(), AllocError>
+    ensures { OnOk result (families.new.items ≡ families.old.items ++ updates_told sum.now) }
+{
     families.push(update_rcodes(alloc, sum)?)?;
     families.push(single(
         alloc,
@@ -99,7 +95,7 @@ fn put_updates(
     families.push(times_family(
         alloc,
         "dnsd_update_seconds",
-        "How long an update took, from its receipt to its reply",
+        "How long updates took until their reply",
         &sum.updates,
     )?)?;
     Ok(())
@@ -110,7 +106,9 @@ fn put_connections(
     alloc: Global,
     families: &mut Vec<Family>,
     sum: &Counters,
-) -> Result<(), AllocError> {
+) -> Result<(), AllocError>
+    ensures { OnOk result (families.new.items ≡ families.old.items ++ connections_told sum.now.numbers) }
+{
     let opened = sum.get(Counter::ConnectionOpened);
     let open = opened.saturating_sub(ended_in(sum));
     families.push(single(
@@ -132,11 +130,13 @@ fn put_connections(
 }
 
 /// Puts the families of what a store wrote after others.
-fn put_store(alloc: Global, families: &mut Vec<Family>, sum: &Counters) -> Result<(), AllocError> {
+fn put_store(alloc: Global, families: &mut Vec<Family>, sum: &Counters) -> Result<(), AllocError>
+    ensures { OnOk result (families.new.items ≡ families.old.items ++ store_told sum.now) }
+{
     families.push(times_family(
         alloc,
         "dnsd_store_fsync_seconds",
-        "How long the store took to write and sync a batch",
+        "How long writes of a batch took",
         &sum.syncs,
     )?)?;
     families.push(single(

@@ -1,4 +1,7 @@
 //! What the system knows of the process (Prometheus, Writing client libraries, Process metrics).
+ghost use Rattle.std.specs.Prelude.{◌≡◌, ◌++◌, OnOk};
+ghost use Rattle.metric_families.specs.Known.{process_told};
+
 use crate::kinds::{COUNTER, GAUGE};
 use crate::single::single;
 use metrics_text::{Family, Number, Sample};
@@ -20,8 +23,10 @@ pub fn process_families(
     alloc: Global,
     families: &mut Vec<Family>,
     facts: ProcessFacts,
-) -> Result<(), AllocError> {
-    let help = "How long the process has run on processors, in seconds";
+) -> Result<(), AllocError>
+    ensures { OnOk result (families.new.items ≡ families.old.items ++ process_told facts.processor facts.resident facts.in_all) }
+{
+    let help = "How long the process ran on processors";
     let mut processor = Family::new(alloc, "process_cpu_seconds_total", help, COUNTER);
     processor.push(Sample::new(alloc, Number::Nanoseconds(facts.processor)))?;
     families.push(processor)?;

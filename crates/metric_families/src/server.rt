@@ -1,4 +1,7 @@
 //! What is known of a server without counters.
+ghost use Rattle.std.specs.Prelude.{◌≡◌, ◌++◌, OnOk};
+ghost use Rattle.metric_families.specs.Known.{store_seen};
+
 use crate::kinds::{COUNTER, GAUGE};
 use crate::single::{labelled_single, put_labelled, put_of_two, single};
 use metrics_text::Family;
@@ -78,11 +81,13 @@ pub fn store_families(
     alloc: Global,
     families: &mut Vec<Family>,
     facts: StoreFacts,
-) -> Result<(), AllocError> {
+) -> Result<(), AllocError>
+    ensures { OnOk result (families.new.items ≡ families.old.items ++ store_seen facts.is_failing facts.journal) }
+{
     families.push(single(
         alloc,
         "dnsd_store_failing",
-        "Whether the last write of the store failed",
+        "Whether the last write failed",
         GAUGE,
         u64::from(facts.is_failing),
     )?)?;
