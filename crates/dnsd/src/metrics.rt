@@ -1,6 +1,6 @@
 //! What is counted and told of a running server: the socket for metrics, and the counters of its threads.
 use crate::control::NotBound;
-use command_line::{Serve, VERSION};
+use command_line::Serve;
 use counters::ServerCounters;
 use dnsd_setup::{StartedZone, bind_metrics};
 use log_lines::RecentLines;
@@ -17,7 +17,6 @@ use std::time::Clock;
 /// What the server is, which starts now.
 pub fn about<R: Clock>(rt: &R) -> About {
     About {
-        program: VERSION,
         started: SystemClock::new(rt).now(),
     }
 }

@@ -310,7 +310,7 @@ impl<'a, C: Clock> ControlJob<'a, C> {
         ensures number { self.new.number ≡ self.old.number }
     {
         let records = self.records.of(version);
-        let (about, started) = (self.plan.about, self.started);
+        let started = self.started;
         let store = store_facts(rt, self.alloc, &self.plan.store)?;
         let lines = match self.counters {
             Some(server) => {
@@ -318,7 +318,6 @@ impl<'a, C: Clock> ControlJob<'a, C> {
                 let sum = server.sum(rt, &mut rounds);
                 metrics_of(
                     self.alloc,
-                    about,
                     started,
                     version,
                     records,
@@ -326,7 +325,7 @@ impl<'a, C: Clock> ControlJob<'a, C> {
                     store,
                 )?
             }
-            None => metrics_of(self.alloc, about, started, version, records, None, store)?,
+            None => metrics_of(self.alloc, started, version, records, None, store)?,
         };
         stats(self.alloc, &lines)
     }

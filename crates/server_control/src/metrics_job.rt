@@ -339,9 +339,9 @@ impl<'a, C: Clock> MetricsJob<'a, C> {
             Some((server, sum)) => Some((*server, sum)),
             None => None,
         };
-        let (alloc, about) = (self.alloc, self.plan.about);
+        let alloc = self.alloc;
         let store = store_facts(rt, alloc, &self.plan.store)?;
-        let mut body = metrics_of(alloc, about, self.started, version, records, counted, store)?;
+        let mut body = metrics_of(alloc, self.started, version, records, counted, store)?;
         let drops = self.plan.drops.read(alloc)?;
         if let Some(drops) = &drops {
             put_drops(alloc, &mut body, drops.as_slice())?;

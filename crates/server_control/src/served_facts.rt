@@ -10,11 +10,12 @@ use std::sync::Wait;
 use update_batches::SharedStoreState;
 use zone_tree::{Version, Zone, ZoneRead};
 
+/// The program's version, which `command_line` has too.
+const VERSION: &str = "0.1.0";
+
 /// What a server is.
 #[derive(Clone, Copy)]
 pub struct About {
-    /// The program's version.
-    pub program: &'static str,
     /// When it was started, in seconds since 1970.
     pub started: u64,
 }
@@ -48,7 +49,6 @@ impl RecordCount {
 /// What is told of a server with its version that was published last, and of its store, if it has one.
 pub(crate) fn metrics_of(
     alloc: Global,
-    about: About,
     started: u64,
     version: &Version,
     records: u64,
@@ -58,7 +58,7 @@ pub(crate) fn metrics_of(
     let zone = version.zone();
     let apex = zone.apex().to_text();
     let facts = Facts {
-        version: about.program,
+        version: VERSION,
         started,
         zone: apex.as_str(),
         serial: zone.serial().0,
