@@ -2,6 +2,7 @@
 use denote.RattleType.{RattleType}
 use denote.Ref.{NamedLft}
 use denote.Param.Send.{IsSend, IsSync, recorded_send, recorded_sync, shr_send, struct_send, struct_sync, enum_send, sendable}
+use denote.Signature.{static_lft}
 use denote.Struct.Declared.{shape}
 use denote.Enum.Declared as enum
 use Rattle.std.proofs.Crossing as crossing
@@ -97,7 +98,7 @@ job_send a C ticks =
                 (
                   (signed_send a _ C (udp_send a (counts.the_row a C) (counts_send a C ticks)) ticks, tt),
                   (
-                    (signed_send a _ C (counted_row_send a _ C (tcp_row_send a (counted_messages.the_row a (signed_messages.the_row a transfer.the_row)) C (counted_sending.ghosts (signed_messages.the_row a transfer.the_row) (signed_sending.ghosts transfer.the_row sending.ghosts signed_sending.no_dict signed_sending.no_dict) counted_sending.no_dict counted_sending.no_dict) (counted_messages_send a (signed_messages.the_row a transfer.the_row) (signing_send a)) ticks) ticks) ticks, tt),
+                    (signed_send a _ C (counted_row_send a _ C (tcp_row_send a (counted_messages.the_row a (signed_messages.the_row a transfer.the_row)) C (counted_sending.ghosts (signed_messages.the_row static_lft transfer.the_row) (signed_sending.ghosts transfer.the_row sending.ghosts signed_sending.no_dict signed_sending.no_dict) counted_sending.no_dict counted_sending.no_dict) (counted_messages_send a (signed_messages.the_row a transfer.the_row) (signing_send a)) ticks) ticks) ticks, tt),
                     ((telling_send a C ticks, tt), ((control_send a C ticks, tt), ((metrics_send a C ticks, tt), tt))),
                   ),
                 ),
