@@ -40,7 +40,7 @@ impl<'a, M: Messages, A: Handler<M> + Drop> Drop for CountingConnections<'a, M, 
     }
 }
 
-impl<'a, M: Messages, A: Handler<M> + Drop> CountingConnections<'a, M, A> {
+impl<'a, M: Messages, A: Handler<M>> CountingConnections<'a, M, A> {
     /// Counts what this handler answers. The first peer asks from this address.
     pub fn new(
         inner: A,
@@ -149,7 +149,7 @@ fn ended_by(reason: ConnectionEnd, tally: Tally) -> u64 {
     }
 }
 
-impl<'a, M: Messages, A: Handler<M> + Drop> Handler<CountedMessages<'a, M>>
+impl<'a, M: Messages, A: Handler<M>> Handler<CountedMessages<'a, M>>
     for CountingConnections<'a, M, A> {
     ghost seen = { λ counting. A.seen counting.inner };
 
@@ -183,9 +183,14 @@ impl<'a, M: Messages, A: Handler<M> + Drop> Handler<CountedMessages<'a, M>>
             Err(end) => Err(end),
         }
     }
+
+    // It is counted in its turn, when its reply is made.
+    fn prepare<R: Wait>(&mut self, rt: &R, between: usize, request: &[u8], out: &mut [u8]) -> bool {
+        self.inner.prepare(rt, between, request, out)
+    }
 }
 
-impl<'a, M: Messages, A: Handler<M> + Drop> Resting<CountedMessages<'a, M>>
+impl<'a, M: Messages, A: Handler<M>> Resting<CountedMessages<'a, M>>
     for CountingConnections<'a, M, A> {
     fn rest(&mut self, tally: Tally) {
         if tally != self.tally {

@@ -112,7 +112,7 @@ fn serve_connections<'g, 's, R: Wait, Z: FirstZone, N: ServerName, L: ServiceLog
     let handler = handler.with_rules(job.allowed());
     let mut handler = handler.with_sender(sender);
     let end = job.serve(rt, &mut handler, log);
-    (handler.into_reader(), end)
+    (handler.into_reader(rt), end)
 }
 
 /// Does a job on connections whose requests are counted, as [`serve_connections`] does.
@@ -136,7 +136,7 @@ fn serve_counted_connections<'g, 's, R: Wait, Z: FirstZone, N: ServerName, L: Se
     let counts = ThreadCounts::new(counted.shown);
     let mut handler = CountingConnections::new(handler, counts, nobody());
     let end = counted.job.serve(rt, &mut handler, log);
-    (handler.into_inner().into_reader(), end)
+    (handler.into_inner().into_reader(rt), end)
 }
 
 /// Does a job on a UDP socket whose requests may be signed, as [`serve_datagrams`] does.
@@ -183,7 +183,7 @@ fn serve_signed_datagrams<
         nobody(),
     );
     let end = signed.job.serve(rt, &mut handler);
-    (handler.into_inner().into_reader(), end)
+    (handler.into_inner().into_reader(rt), end)
 }
 
 /// Does a job on connections whose requests may be signed, as [`serve_connections`] does.
@@ -230,7 +230,7 @@ fn serve_signed_connections<
         nobody(),
     );
     let end = signed.job.serve(rt, &mut handler, log);
-    (handler.into_inner().into_reader(), end)
+    (handler.into_inner().into_reader(rt), end)
 }
 
 /// Does a job on connections whose requests may be signed and are counted, as [`serve_signed_connections`] does.
@@ -279,7 +279,7 @@ fn serve_counted_signed<
     let counts = ThreadCounts::new(signed.job.shown);
     let mut handler = CountingConnections::new(handler, counts, nobody());
     let end = signed.job.job.serve(rt, &mut handler, log);
-    (handler.into_inner().into_inner().into_reader(), end)
+    (handler.into_inner().into_inner().into_reader(rt), end)
 }
 
 /// Does a job that notifies secondaries, with a handler that loads versions for it by a reader. Gives the reader back, and how the job ended.
