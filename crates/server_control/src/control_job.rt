@@ -2,7 +2,7 @@
 ghost use Rattle.std.specs.Prelude.{◌≡◌, Some, IfOk};
 ghost use Rattle.requests.specs.Served.{Grows};
 
-use crate::control_reload::{Reload, Step, after_judging, after_making, order};
+use crate::control_reload::{Reload, Step, abandon, after_judging, after_making, order};
 use crate::control_text::{ServedSince, StoreStatus, done, failed, stats, status};
 use crate::reload_slot::{ReloadOrder, Reloads};
 use crate::served_facts::{About, RecordCount, metrics_of};
@@ -254,8 +254,7 @@ impl<'a, C: Clock> ControlJob<'a, C> {
                 reload,
                 replied(failed(self.alloc, "no command: reload, status, stats or stop")),
             ),
-            Heard::Command(ControlCommand::Reload) => self.begin_reload(rt, handler, reload),
-            Heard::Command(command) => (reload, self.obey(rt, handler, command)),
+            Heard::Command(command) => self.obey(rt, handler, reload, command),
         };
         self.obeyed = self.obeyed.saturating_add(1);
         self.settle(at, obeyed, now);
@@ -286,33 +285,47 @@ impl<'a, C: Clock> ControlJob<'a, C> {
         }
     }
 
-    /// Obeys a command other than a reload.
+    /// Obeys a command. Gives how far the reload is then, and what the command's client gets.
     fn obey<R: Wait, A: LocalUpdates>(
         &mut self,
         rt: &R,
         handler: &mut A,
+        reload: Reload,
         command: ControlCommand,
-    ) -> Result<Obeyed, AllocError>
+    ) -> (Reload, Result<Obeyed, AllocError>)
         ensures grows { Grows (A.seen handler.new) (A.seen handler.old) }
         ensures number { self.new.number ≡ self.old.number }
     {
         match command {
+            ControlCommand::Reload => self.begin_reload(rt, handler, reload),
             ControlCommand::Stop => {
                 self.shutdown.end();
-                Ok(Obeyed::Reply(done(self.alloc)?))
+                (reload, replied(done(self.alloc)))
             }
-            ControlCommand::Reload | ControlCommand::Status | ControlCommand::Stats => {
-                let Ok(version) = handler.last_version(rt) else {
-                    return Ok(Obeyed::Reply(failed(self.alloc, "no version can be loaded")?));
-                };
-                let text = if command == ControlCommand::Stats {
-                    self.stats(rt, version.get())?
-                } else {
-                    self.status(rt, version.get())?
-                };
-                Ok(Obeyed::Reply(text))
-            }
+            ControlCommand::Status => (reload, self.tell(rt, handler, false)),
+            ControlCommand::Stats => (reload, self.tell(rt, handler, true)),
         }
+    }
+
+    /// Tells what is served, or the lines for Prometheus.
+    fn tell<R: Wait, A: LocalUpdates>(
+        &mut self,
+        rt: &R,
+        handler: &mut A,
+        has_lines: bool,
+    ) -> Result<Obeyed, AllocError>
+        ensures grows { Grows (A.seen handler.new) (A.seen handler.old) }
+        ensures number { self.new.number ≡ self.old.number }
+    {
+        let Ok(version) = handler.last_version(rt) else {
+            return replied(failed(self.alloc, "no version can be loaded"));
+        };
+        let text = if has_lines {
+            self.stats(rt, version.get())?
+        } else {
+            self.status(rt, version.get())?
+        };
+        Ok(Obeyed::Reply(text))
     }
 
     /// What is served, a line for each of it.
@@ -466,28 +479,6 @@ impl<'a, C: Clock> ControlJob<'a, C> {
         if let Some(slot) = &self.plan.reloads {
             slot.end(rt);
         }
-    }
-}
-
-/// Abandons a reload, and says whether one was under way.
-fn abandon<R: Wait, A: LocalUpdates>(rt: &R, handler: &mut A, reload: Reload) -> bool
-    ensures grows { Grows (A.seen handler.new) (A.seen handler.old) }
-{
-    match reload {
-        Reload::Judged {
-            ticket,
-            summary: _,
-            is_held: _,
-        } => {
-            handler.leave(rt, ticket);
-            true
-        }
-        Reload::Made { is_held: true } => {
-            handler.release(rt);
-            true
-        }
-        Reload::Made { is_held: false } => true,
-        Reload::Idle => false,
     }
 }
 

@@ -162,6 +162,28 @@ pub(crate) fn after_judging<R: Wait, A: LocalUpdates, L: ServiceLog>(
     }
 }
 
+/// Abandons a reload, and says whether one was under way.
+pub(crate) fn abandon<R: Wait, A: LocalUpdates>(rt: &R, handler: &mut A, reload: Reload) -> bool
+    ensures grows { Grows (A.seen handler.new) (A.seen handler.old) }
+{
+    match reload {
+        Reload::Judged {
+            ticket,
+            summary: _,
+            is_held: _,
+        } => {
+            handler.leave(rt, ticket);
+            true
+        }
+        Reload::Made { is_held: true } => {
+            handler.release(rt);
+            true
+        }
+        Reload::Made { is_held: false } => true,
+        Reload::Idle => false,
+    }
+}
+
 /// Logs a reload that is done.
 fn log_reload<R: Wait, L: ServiceLog>(
     rt: &R,
