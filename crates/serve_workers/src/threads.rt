@@ -183,7 +183,7 @@ fn serve_signed_datagrams<
         nobody(),
     );
     let end = signed.job.serve(rt, &mut handler);
-    (handler.into_inner().into_reader(rt), end)
+    (handler.into_inner().into_reader(), end)
 }
 
 /// Does a job on connections whose requests may be signed, as [`serve_connections`] does.
