@@ -35,7 +35,7 @@ zone="$work/zone"
 
 # The samples, those of the octets apart.
 samples() {
-    curl -fsS "http://$web/metrics" | grep -v '^#' | grep -v '_bytes_total\|_seconds'
+    curl -fsS "http://$web/metrics" | grep -v '^#' | grep -v '_bytes_total\|_seconds\|^process_'
 }
 
 # The number of a sample.
@@ -196,7 +196,7 @@ check 'metrics beside a client that says nothing' '200 text/plain; version=0.0.4
 exec 9>&-
 
 # The control socket prints the same lines.
-curl -fsS "http://$web/metrics" | grep -v dnsd_udp_drops_total | sed 's/ .*//' | sort >"$work/web"
+curl -fsS "http://$web/metrics" | grep -v 'dnsd_udp_drops_total\|process_[crv]' | sed 's/ .*//' | sort >"$work/web"
 "$program" control "$work/control" stats | sed 's/ .*//' | sort >"$work/stats"
 check 'stats prints the same families' '' "$(diff "$work/web" "$work/stats")"
 

@@ -15,20 +15,21 @@ use serve_core::Peer;
 use std::marker::PhantomData;
 use std::net::SocketAddr;
 use std::sync::Wait;
+use std::time::Clock;
 use tcp_connections::{Handler, Messages, Reply};
 use tcp_loop::Tally;
 
 /// Has another handler answer the requests of connections, and counts them and their replies.
-pub struct CountingConnections<'a, M: Messages, A: Handler<M>> {
+pub struct CountingConnections<'a, M: Messages, A: Handler<M>, C> {
     inner: A,
-    counts: ThreadCounts<'a>,
+    counts: ThreadCounts<'a, C>,
     from: SocketAddr,
     /// What had become of the connections when that was counted last.
     tally: Tally,
     messages: PhantomData<M>,
 }
 
-impl<'a, M: Messages, A: Handler<M> + Drop> Drop for CountingConnections<'a, M, A> {
+impl<'a, M: Messages, A: Handler<M> + Drop, C> Drop for CountingConnections<'a, M, A, C> {
     fn drop(self) {
         let CountingConnections {
             inner: _,
@@ -40,13 +41,13 @@ impl<'a, M: Messages, A: Handler<M> + Drop> Drop for CountingConnections<'a, M, 
     }
 }
 
-impl<'a, M: Messages, A: Handler<M>> CountingConnections<'a, M, A> {
+impl<'a, M: Messages, A: Handler<M>, C: Clock> CountingConnections<'a, M, A, C> {
     /// Counts what this handler answers. The first peer asks from this address.
     pub fn new(
         inner: A,
-        counts: ThreadCounts<'a>,
+        counts: ThreadCounts<'a, C>,
         from: SocketAddr,
-    ) -> CountingConnections<'a, M, A>
+    ) -> CountingConnections<'a, M, A, C>
         ensures { result.inner ≡ inner }
     {
         CountingConnections {
@@ -73,8 +74,14 @@ impl<'a, M: Messages, A: Handler<M>> CountingConnections<'a, M, A> {
     }
 
     /// Counts a request and its reply, whose one message is at the start of a buffer, and gives that reply, whose messages are counted if there are several. A request whose reply
-    /// is made later is counted then.
-    fn count(&mut self, request: &[u8], made: Reply<M>, out: &[u8]) -> Reply<CountedMessages<'a, M>>
+    /// is made later is counted then. An update came at a time.
+    fn count(
+        &mut self,
+        request: &[u8],
+        came: Option<u64>,
+        made: Reply<M>,
+        out: &[u8],
+    ) -> Reply<CountedMessages<'a, M>>
         requires { (len : ℕ) → made ≡ ReplyOf.One len → len ≤ length out.now }
         ensures inner { self.new.inner ≡ self.old.inner }
         ensures bound { (len : ℕ) → result ≡ ReplyOf.One len → made ≡ ReplyOf.One len }
@@ -83,7 +90,13 @@ impl<'a, M: Messages, A: Handler<M>> CountingConnections<'a, M, A> {
         ensures messages { messages_of (λ counted. M.left counted.inner) result out.now ≡ messages_of M.left made out.now }
     {
         if let Reply::Later = &made {
+            if let Some(came) = came {
+                self.counts.put_off(request, self.from, came);
+            }
             return Reply::Later;
+        }
+        if let Some(came) = came {
+            self.counts.finish(request, self.from, came);
         }
         self.counts.take(Transport::Tcp, request, self.from);
         match made {
@@ -149,8 +162,8 @@ fn ended_by(reason: ConnectionEnd, tally: Tally) -> u64 {
     }
 }
 
-impl<'a, M: Messages, A: Handler<M>> Handler<CountedMessages<'a, M>>
-    for CountingConnections<'a, M, A> {
+impl<'a, M: Messages, A: Handler<M>, C: Clock> Handler<CountedMessages<'a, M>>
+    for CountingConnections<'a, M, A, C> {
     ghost seen = { λ counting. A.seen counting.inner };
 
     ghost peer = { λ counting. A.peer counting.inner };
@@ -178,8 +191,9 @@ impl<'a, M: Messages, A: Handler<M>> Handler<CountedMessages<'a, M>>
         request: &[u8],
         out: &mut [u8],
     ) -> Result<Reply<CountedMessages<'a, M>>, StreamEnd> {
+        let came = self.counts.come(request);
         match self.inner.reply(rt, request, out) {
-            Ok(made) => Ok(self.count(request, made, out)),
+            Ok(made) => Ok(self.count(request, came, made, out)),
             Err(end) => Err(end),
         }
     }
@@ -190,8 +204,8 @@ impl<'a, M: Messages, A: Handler<M>> Handler<CountedMessages<'a, M>>
     }
 }
 
-impl<'a, M: Messages, A: Handler<M>> Resting<CountedMessages<'a, M>>
-    for CountingConnections<'a, M, A> {
+impl<'a, M: Messages, A: Handler<M>, C: Clock> Resting<CountedMessages<'a, M>>
+    for CountingConnections<'a, M, A, C> {
     fn rest(&mut self, tally: Tally) {
         if tally != self.tally {
             self.count_ends(tally);

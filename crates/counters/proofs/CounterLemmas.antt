@@ -1,5 +1,5 @@
 -- No two counters have the same place: each stands at its own place in a list of all.
-use Rattle.std.proofs.Common.{◌≡◌, ◌≢◌, refl, sym, ap, ◌∙◌, ℕ, List, [], ◌∷◌, ◌++◌, map, Option, Some, slice_get, get_or, get_or-set_other}
+use Rattle.std.proofs.Common.{◌≡◌, ◌≢◌, refl, sym, ap, ◌∙◌, ℕ, List, [], ◌∷◌, ◌++◌, map, Some, slice_get, get_or, get_or-set_other}
 use Rattle.counters.specs.declared.counter.Counter.{Counter}
 use Rattle.counters.specs.declared.counter.Counter.TheVariants.{Request, Opcode, Question, Reply, Truncated, Dropped, ReceivedOctets, SentOctets, Update, UpdateChanged, UpdateRefused, Transfer, ConnectionOpened, ConnectionEnded, StoreBatch, StoreUpdate, StoreCompaction}
 use Rattle.counters.specs.declared.opcode.Opcode.TheVariants as opcode

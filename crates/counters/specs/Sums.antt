@@ -1,9 +1,9 @@
--- Numbers that go up, to 2^64 - 1 at most.
-use Rattle.std.specs.Prelude.{◌≡◌, ℕ, ◌+◌, ◌-◌, ◌^◌, List, min, slice_index, slice_set, EachIndex}
+-- Numbers that go up, modulo 2^64.
+use Rattle.std.specs.Prelude.{◌≡◌, ℕ, ◌+◌, ◌%◌, ◌^◌, List, slice_index, slice_set, EachIndex}
 
 -- two numbers together
 abbrev pub both : ℕ → ℕ → ℕ
-both a b = min (a + b) (2 ^ 64 - 1)
+both a b = (a + b) % 2 ^ 64
 
 -- more at a place of numbers
 abbrev pub more_at : ℕ → ℕ → List ℕ → List ℕ

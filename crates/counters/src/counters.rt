@@ -38,7 +38,7 @@ impl Counters {
         self.numbers[counter.index()]
     }
 
-    /// One more of a counter: its number goes up by one, to 2^64 - 1 at most, and no other does.
+    /// One more of a counter: its number goes up by one, modulo 2^64, and no other does.
     pub fn add(&mut self, counter: Counter)
         ensures all { self.new ≡ with_more counter 1 self.old }
         ensures counted { number_of counter self.new.numbers ≡ both (number_of counter self.old.numbers) 1 }
@@ -47,7 +47,7 @@ impl Counters {
         self.add_many(counter, 1);
     }
 
-    /// So many more of a counter: its number goes up by that, to 2^64 - 1 at most, and no other does.
+    /// So many more of a counter: its number goes up by that, modulo 2^64, and no other does.
     pub fn add_many(&mut self, counter: Counter, more: u64)
         ensures all { self.new ≡ with_more counter more self.old }
         ensures counted { number_of counter self.new.numbers ≡ both (number_of counter self.old.numbers) more }
@@ -56,7 +56,7 @@ impl Counters {
         add_at(&mut self.numbers, counter.index(), more);
     }
 
-    /// The numbers of another thread, too: each goes up by that thread's, to 2^64 - 1 at most.
+    /// The numbers of another thread, too: each goes up by that thread's, modulo 2^64.
     pub fn add_all(&mut self, other: &Counters)
         ensures numbers { AreSums self.old.numbers other.now.numbers self.new.numbers }
         ensures updates { AreSums self.old.updates.counts other.now.updates.counts self.new.updates.counts }

@@ -1,7 +1,8 @@
 //! Counters of each thread, which others read now and then, and none of which a request waits for (own).
 //!
 //! [`Counters`] are the numbers of one thread: those of each [`Counter`], and how long updates and syncs took. [`SharedCounters`] is what
-//! others see of them: the thread shows its numbers there, unless somebody reads at that moment. Numbers never fall, and stop at 2^64 - 1.
+//! others see of them: the thread shows its numbers there, unless somebody reads at that moment. Numbers go up, modulo 2^64: after 2^64 - 1 comes 0,
+//! which Prometheus takes for a restart.
 #![tactic(auto)]
 
 mod address_family;
@@ -9,6 +10,7 @@ mod connection_end;
 mod counter;
 mod counters;
 mod opcode;
+mod open_updates;
 mod qtype;
 mod rcode;
 mod refusal;

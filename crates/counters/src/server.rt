@@ -5,7 +5,6 @@ use crate::shared::SharedCounters;
 use std::alloc::{AllocError, Global};
 use std::net::SocketAddr;
 use std::sync::Wait;
-use std::sync::atomic::{AtomicBool, AtomicU64, Ordering};
 
 /// What others see of the numbers of a server's threads: of each that answers requests, by its place, of the updates, and of each secondary.
 #[derive(Drop)]
@@ -13,8 +12,6 @@ pub struct ServerCounters {
     threads: Vec<SharedCounters>,
     updates: SharedCounters,
     secondaries: Vec<SecondaryCounters>,
-    is_store_failing: AtomicBool,
-    journal: AtomicU64,
 }
 
 impl ServerCounters {
@@ -22,14 +19,12 @@ impl ServerCounters {
     pub fn new(alloc: Global, count: usize) -> Result<ServerCounters, AllocError> {
         let mut threads = Vec::new(alloc);
         for _place in 0..count {
-            threads.push(SharedCounters::new())?;
+            threads.push(SharedCounters::new(alloc)?)?;
         }
         Ok(ServerCounters {
             threads,
-            updates: SharedCounters::new(),
+            updates: SharedCounters::new(alloc)?,
             secondaries: Vec::new(alloc),
-            is_store_failing: AtomicBool::new(false),
-            journal: AtomicU64::new(u64::MAX),
         })
     }
 
@@ -57,29 +52,6 @@ impl ServerCounters {
     /// The numbers of the updates.
     pub fn updates(&self) -> &SharedCounters {
         &self.updates
-    }
-
-    /// Notes whether the last write of the store failed.
-    pub fn set_store_failing(&self, is_failing: bool) {
-        self.is_store_failing.store(is_failing, Ordering::SeqCst);
-    }
-
-    /// Whether the last write of the store failed.
-    pub fn is_store_failing(&self) -> bool {
-        self.is_store_failing.load(Ordering::SeqCst)
-    }
-
-    /// Notes how many octets the journal has.
-    pub fn set_journal(&self, octets: u64) {
-        self.journal.store(octets, Ordering::SeqCst);
-    }
-
-    /// How many octets the journal has; None where that wasn't noted yet.
-    pub fn journal(&self) -> Option<u64> {
-        match self.journal.load(Ordering::SeqCst) {
-            u64::MAX => None,
-            octets => Some(octets),
-        }
     }
 
     /// The numbers of all threads together. `rounds` gets how often each thread that answers requests has shown its numbers, as many as it has room for.

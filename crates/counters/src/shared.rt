@@ -1,9 +1,13 @@
 //! What others see of a thread's numbers.
 use crate::counter::Counter;
 use crate::counters::Counters;
+use crate::open_updates::OpenUpdates;
 use crate::rcode::Rcode;
+use crate::times::{BUCKETS, Times, bucket_of};
 use crate::transfer::Transfer;
 use crossbeam_utils::CachePadded;
+use std::alloc::{AllocError, Global};
+use std::net::SocketAddr;
 use std::sync::atomic::{AtomicU64, Ordering};
 use std::sync::{Mutex, Wait};
 
@@ -14,12 +18,15 @@ struct Shown {
     rounds: u64,
 }
 
-/// What is counted of replies that others than the thread's handler make: the octets of their messages, transfers by what was sent, and updates by their RCODE.
+/// What is counted of replies that others than the thread's handler make: the octets of their messages, transfers by what was sent, and updates by their RCODE; and how long
+/// updates took, in nanoseconds.
 #[derive(Drop)]
 struct Streamed {
     octets: AtomicU64,
     transfers: [AtomicU64; 6],
     updates: [AtomicU64; 13],
+    times: [AtomicU64; BUCKETS],
+    nanoseconds: AtomicU64,
 }
 
 /// What others see of a thread's numbers: those that it showed last.
@@ -27,11 +34,12 @@ struct Streamed {
 pub struct SharedCounters {
     last: CachePadded<Mutex<Shown>>,
     streamed: CachePadded<Streamed>,
+    open: OpenUpdates,
 }
 
 impl SharedCounters {
-    /// Nothing was counted yet.
-    pub fn new() -> SharedCounters {
+    /// Nothing was counted yet. The fault is a request for memory that was refused.
+    pub fn new(alloc: Global) -> Result<SharedCounters, AllocError> {
         let shown = Shown {
             counters: Counters::new(),
             rounds: 0,
@@ -61,11 +69,27 @@ impl SharedCounters {
                 AtomicU64::new(0),
                 AtomicU64::new(0),
             ],
+            times: [
+                AtomicU64::new(0),
+                AtomicU64::new(0),
+                AtomicU64::new(0),
+                AtomicU64::new(0),
+                AtomicU64::new(0),
+                AtomicU64::new(0),
+                AtomicU64::new(0),
+                AtomicU64::new(0),
+                AtomicU64::new(0),
+                AtomicU64::new(0),
+                AtomicU64::new(0),
+                AtomicU64::new(0),
+            ],
+            nanoseconds: AtomicU64::new(0),
         };
-        SharedCounters {
+        Ok(SharedCounters {
             last: CachePadded::new(Mutex::new(shown)),
             streamed: CachePadded::new(streamed),
-        }
+            open: OpenUpdates::new(alloc)?,
+        })
     }
 
     /// Shows these numbers, unless somebody reads at this moment: whether they are shown. It waits for nobody.
@@ -102,10 +126,36 @@ impl SharedCounters {
         last.counters.add_many(counter, more);
     }
 
-    /// Counts how long an update took, in nanoseconds, beside the numbers that a thread shows.
-    pub fn add_update<R: Wait>(&self, rt: &R, nanoseconds: u64) {
-        let mut last = self.last.lock(rt);
-        last.counters.updates.add(nanoseconds);
+    /// Notes that an update with a message ID came from an address, at a time in nanoseconds. One that came before with the same has come again.
+    pub fn begin_update(&self, from: SocketAddr, id: u16, now: u64) {
+        self.open.note(from, id, now);
+    }
+
+    /// The same, unless it is noted already.
+    pub fn put_off_update(&self, from: SocketAddr, id: u16, now: u64) {
+        if !self.open.is_noted(from, id) {
+            self.open.note(from, id, now);
+        }
+    }
+
+    /// Takes when an update with a message ID from an address came, in nanoseconds; None where that isn't known.
+    pub fn take_update(&self, from: SocketAddr, id: u16) -> Option<u64> {
+        self.open.take(from, id)
+    }
+
+    /// Counts how long an update took, in nanoseconds.
+    pub fn stream_time(&self, nanoseconds: u64) {
+        self.streamed.times[bucket_of(nanoseconds)].fetch_add(1, Ordering::SeqCst);
+        self.streamed
+            .nanoseconds
+            .fetch_add(nanoseconds, Ordering::SeqCst);
+    }
+
+    /// Counts how long an update took that has a message ID, came from an address, and gets its reply at a time in nanoseconds. It isn't counted where it isn't known when it came.
+    pub fn end_update(&self, from: SocketAddr, id: u16, now: u64) {
+        if let Some(since) = self.take_update(from, id) {
+            self.stream_time(now.saturating_sub(since));
+        }
     }
 
     /// Counts how long a sync of the store took, in nanoseconds, beside the numbers that a thread shows.
@@ -131,6 +181,17 @@ impl SharedCounters {
             sum.add_many(Counter::Transfer(transfer), count);
         }
         self.add_updates(sum);
+        sum.updates.add_all(&self.streamed_times());
+    }
+
+    /// How long updates took.
+    fn streamed_times(&self) -> Times {
+        let mut times = Times::new();
+        for (place, count) in self.streamed.times.iter().enumerate() {
+            times.counts[place] = count.load(Ordering::SeqCst);
+        }
+        times.nanoseconds = self.streamed.nanoseconds.load(Ordering::SeqCst);
+        times
     }
 
     /// Adds what is counted of replies to updates that others make.

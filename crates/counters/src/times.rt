@@ -46,7 +46,7 @@ impl Times {
         ensures { self.new ≡ with_time self.old nanoseconds }
     {
         add_at(&mut self.counts, bucket_of(nanoseconds), 1);
-        self.nanoseconds = self.nanoseconds.saturating_add(nanoseconds);
+        self.nanoseconds = self.nanoseconds.wrapping_add(nanoseconds);
     }
 
     /// The times of another, too.
@@ -55,12 +55,12 @@ impl Times {
         ensures nanoseconds { self.new.nanoseconds ≡ both self.old.nanoseconds other.now.nanoseconds }
     {
         add_each(&mut self.counts, &other.counts);
-        self.nanoseconds = self.nanoseconds.saturating_add(other.nanoseconds);
+        self.nanoseconds = self.nanoseconds.wrapping_add(other.nanoseconds);
     }
 }
 
 /// The bucket of a time in nanoseconds: how many bounds lie below it.
-fn bucket_of(nanoseconds: u64) -> usize
+pub(crate) fn bucket_of(nanoseconds: u64) -> usize
     ensures place { result ≡ bucket_of nanoseconds }
     ensures within { result < 12 }
 {
@@ -87,7 +87,7 @@ pub(crate) fn add_at(numbers: &mut [u64], at: usize, more: u64)
     requires { at < length numbers.old }
     ensures { numbers.new ≡ more_at at more numbers.old }
 {
-    numbers[at] = numbers[at].saturating_add(more);
+    numbers[at] = numbers[at].wrapping_add(more);
 }
 
 /// Numbers together with others, place by place.

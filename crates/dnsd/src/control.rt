@@ -1,5 +1,5 @@
 //! The operator's commands to a running server: its control socket, and the thread that reads the zone file again for a reload.
-use crate::metrics::{about_of, beside_of};
+use crate::metrics::{about, beside_of};
 use command_line::Serve;
 use commands::Source;
 use dnsd_setup::{FileReader, StartedZone, bind_control_at, prepare_reloads, remove_control};
@@ -62,7 +62,7 @@ fn plan_for<R: AllocGlobal + Clock, S: Fn(FileReader) -> io::Result<()>>(
         listener,
         reloads,
         beside: beside_of(serve),
-        about: about_of(rt, serve),
+        about: about(rt),
         first: 0,
         store: None,
     })

@@ -2,9 +2,9 @@
 use crate::control::NotBound;
 use command_line::{Serve, VERSION};
 use counters::ServerCounters;
-use dnsd_setup::bind_metrics;
+use dnsd_setup::{StartedZone, bind_metrics};
 use log_lines::RecentLines;
-use server_control::{About, MetricsPlan, UdpDrops};
+use server_control::{About, MetricsPlan, ProcessFiles, UdpDrops};
 use signed_replies::{SystemClock, UnixClock};
 use std::alloc::{AllocError, Global};
 use std::fs::{File, Files};
@@ -15,11 +15,10 @@ use std::sync::Arc;
 use std::time::Clock;
 
 /// What the server is, which starts now.
-pub fn about_of<R: Clock>(rt: &R, serve: &Serve<'_>) -> About {
+pub fn about<R: Clock>(rt: &R) -> About {
     About {
         program: VERSION,
         started: SystemClock::new(rt).now(),
-        has_store: serve.store.is_some(),
     }
 }
 
@@ -48,9 +47,17 @@ fn drops_for<R: Files<File = File> + AllocGlobal>(rt: &R) -> io::Result<UdpDrops
     Ok(UdpDrops::new(rt.alloc(), files))
 }
 
-/// The plan for telling metrics, if there is one, of a server at these addresses. The fault is a growth that was refused.
-pub fn at_addresses(
+/// The files in which the system tells of the process (Linux, proc(5)).
+fn process_for<R: Files<File = File>>(rt: &R) -> ProcessFiles {
+    let times = File::open(rt, "/proc/self/stat").ok();
+    let memory = File::open(rt, "/proc/self/status").ok();
+    ProcessFiles::new(times, memory)
+}
+
+/// The plan for telling metrics, if there is one, of a server that begins with this at these addresses. The fault is a growth that was refused.
+pub fn metrics_of(
     metrics: Option<MetricsPlan>,
+    begun: &StartedZone,
     addresses: &[SocketAddr],
 ) -> Result<Option<MetricsPlan>, AllocError> {
     let Some(mut plan) = metrics else {
@@ -59,6 +66,7 @@ pub fn at_addresses(
     for address in addresses {
         plan.drops.watch(*address)?;
     }
+    plan.store = begun.store_state()?;
     Ok(Some(plan))
 }
 
@@ -74,9 +82,11 @@ pub fn metrics_for<R: Files<File = File> + Net + Env + Eprint + AllocGlobal + Cl
         Ok(Some(listener)) => Ok(Ok(Some(MetricsPlan {
             listener,
             drops: drops_for(rt)?,
+            process: process_for(rt),
             lines: Arc::new(rt.alloc(), RecentLines::new(rt.alloc(), LINES))?,
             beside: beside_of(serve),
-            about: about_of(rt, serve),
+            store: None,
+            about: about(rt),
         }))),
         Ok(None) => Ok(Err(NotBound)),
         Err(fault) => Err(fault),

@@ -5,7 +5,7 @@ ghost use Rattle.dnsd_setup.specs.Starts.{CanStart};
 
 use crate::control::{NotBound, control_for, control_of, unbind_control};
 use crate::key_rights::{rights_for, shared_keys};
-use crate::metrics::{at_addresses, counters_for, metrics_for, recent_of};
+use crate::metrics::{counters_for, metrics_for, metrics_of, recent_of};
 use crate::secondaries::{SecondarySockets, secondaries_for};
 use crate::thread_specs::{places_for, thread_specs_for, work_limits_of};
 use crate::warnings::{listening_for, warn, warn_of_zone};
@@ -296,7 +296,7 @@ fn serve_on_sockets<
         None => None,
     };
     let (workers, addresses, kept) = sockets.into_parts();
-    let metrics = at_addresses(metrics, addresses.as_slice())?;
+    let metrics = metrics_of(metrics, &begun, addresses.as_slice())?;
     let log = Log::new(entries, listening_for(serve, &begun, addresses, kept));
     warn(rt, serve, &log);
     warn_of_zone(rt, serve, &begun, &log);

@@ -70,6 +70,10 @@ fn counter_of(event: &Event) -> Option<Counter> {
             wanted: Wanted::Update,
             ..
         } => Some(Counter::UpdateRefused(Refusal::Permission)),
+        Event::BadTsig {
+            is_update: true,
+            ..
+        } => Some(Counter::UpdateRefused(Refusal::Signature)),
         _ => None,
     }
 }
@@ -89,14 +93,9 @@ fn refusal_by(code: Rcode) -> Option<Refusal> {
     }
 }
 
-/// Counts an event of the store.
+/// Counts an event of the store: a compaction that is done.
 fn count_store<R: Wait>(rt: &R, counters: &ServerCounters, event: &StoreEvent) {
-    match event {
-        StoreEvent::Failing(_) => counters.set_store_failing(true),
-        StoreEvent::Kept => counters.set_store_failing(false),
-        StoreEvent::Compaction(CompactionEvent::Replaced(_)) => {
-            counters.updates().add_many(rt, Counter::StoreCompaction, 1);
-        }
-        StoreEvent::Compaction(_) => {}
+    if let StoreEvent::Compaction(CompactionEvent::Replaced(_)) = event {
+        counters.updates().add_many(rt, Counter::StoreCompaction, 1);
     }
 }

@@ -1,5 +1,5 @@
 -- Rates over time, as a line (SVG 2, 10.6).
-use Rattle.std.specs.Prelude.{ℕ, ◌+◌, ◌-◌, ◌*◌, ◌/◌, ◌^◌, List, [], ◌∷◌, ◌++◌, codes, decimal, flat_map, max, min}
+use Rattle.std.specs.Prelude.{ℕ, ◌+◌, ◌-◌, ◌*◌, ◌/◌, ◌^◌, List, [], ◌∷◌, ◌++◌, codes, decimal, max, min}
 use Rattle.http_page.specs.Html.{escaped}
 
 -- what a graph shows, and its rates, the oldest first
@@ -27,7 +27,7 @@ points_text x most (rate ∷ rates) = point_text x most rate ++ points_text (min
 
 -- what stands between a graph's title and its points
 unfoldable pub graph_front : List ℕ
-graph_front = codes "</h2>\n<svg viewBox=\"0 0 600 100\"><polyline points=\""
+graph_front = codes "</h2>\n<svg viewBox=\"0 0 600 100\" width=\"900\"><polyline fill=\"none\" stroke=\"#06c\" points=\""
 
 -- what stands after them
 unfoldable pub graph_back : List ℕ

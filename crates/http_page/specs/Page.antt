@@ -1,5 +1,5 @@
 -- The page for a person (HTML Living Standard, 13.1).
-use Rattle.std.specs.Prelude.{ℕ, ◌+◌, ◌-◌, ◌^◌, ◌%◌, List, [], ◌∷◌, ◌++◌, codes, decimal, length, drop, flat_map, Option, Some, None}
+use Rattle.std.specs.Prelude.{ℕ, ◌+◌, ◌-◌, ◌^◌, ◌%◌, List, ◌++◌, codes, decimal, length, drop, flat_map, Option, Some, None}
 use Rattle.http_page.specs.Html.{escaped}
 use Rattle.http_page.specs.Graph.{graph_text}
 use Rattle.http_page.specs.Overview.{OverviewOf, SecondaryOf}

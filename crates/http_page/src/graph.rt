@@ -59,7 +59,7 @@ fn put_title(text: &mut Vec<u8>, title: &str, most: u32) -> Result<(), AllocErro
 fn graph_front() -> &'static str
     ensures { result.now ≡ graph_front }
 {
-    "</h2>\n<svg viewBox=\"0 0 600 100\"><polyline points=\""
+    "</h2>\n<svg viewBox=\"0 0 600 100\" width=\"900\"><polyline fill=\"none\" stroke=\"#06c\" points=\""
 }
 
 /// What stands after a graph's points.

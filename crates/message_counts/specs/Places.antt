@@ -9,6 +9,10 @@ octet_at octets at = slice_index octets at
 abbrev pub number_at : List ℕ → ℕ → ℕ
 number_at octets at = 256 * octet_at octets at + octet_at octets (at + 1)
 
+-- QR: the third octet's first bit (RFC 1035, 4.1.1)
+abbrev pub is_reply : List ℕ → Bool
+is_reply octets = nat_lt 127 (octet_at octets 2)
+
 -- OPCODE: four bits of the third octet, after QR (RFC 1035, 4.1.1)
 abbrev pub opcode_of : List ℕ → ℕ
 opcode_of octets = octet_at octets 2 / 8 % 16

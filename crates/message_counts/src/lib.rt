@@ -11,6 +11,6 @@ mod thread;
 mod transfers;
 
 pub use count::{count_reply, count_request};
-pub use places::{is_truncated, opcode_of, question_type, rcode_of};
-pub use thread::{DatagramCounts, NoCounts, ThreadCounts};
+pub use places::{id_of, is_truncated, opcode_of, question_type, rcode_of};
+pub use thread::{DatagramCounts, NoCounts, ThreadCounts, nanos_of};
 pub use transfers::{asks_transfer, transfer_of};

@@ -1,6 +1,6 @@
 //! What octets say at their places.
 ghost use Rattle.std.specs.Prelude.{◌≡◌, ◌<◌, ◌≤◌, ◌==◌, ◌^◌, ◌+◌, ◌*◌, length, drop, slice_index, IfSome};
-ghost use Rattle.message_counts.specs.Places.{octet_at, opcode_of, is_truncated, number_at, name_end, first_name_end, question_type, rcode_of, high_code, opt_code};
+ghost use Rattle.message_counts.specs.Places.{octet_at, is_reply, opcode_of, is_truncated, number_at, name_end, first_name_end, question_type, rcode_of, high_code, opt_code};
 
 /// Where a header counts its questions (RFC 1035, 4.1.1).
 pub(crate) const QDCOUNT: usize = 4;
@@ -29,6 +29,20 @@ pub(crate) fn number_at(octets: &[u8], at: usize) -> u16
     let high = u16::from(octet_at(octets, at));
     let low = u16::from(octet_at(octets, at + 1));
     256 * high + low
+}
+
+/// The message ID (RFC 1035, 4.1.1).
+pub fn id_of(octets: &[u8]) -> u16
+    ensures { result ≡ number_at octets.now 0 }
+{
+    number_at(octets, 0)
+}
+
+/// Whether a message is a reply: QR (RFC 1035, 4.1.1).
+pub(crate) fn is_reply(octets: &[u8]) -> bool
+    ensures { result ≡ is_reply octets.now }
+{
+    octet_at(octets, 2) > 127
 }
 
 /// The OPCODE (RFC 1035, 4.1.1).

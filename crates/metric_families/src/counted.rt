@@ -1,4 +1,8 @@
 //! What the threads of a server count.
+ghost use Rattle.std.specs.Prelude.{◌≡◌, ◌++◌, IfOk, OnOk};
+ghost use Rattle.metrics_text.specs.Families.{with_sample};
+ghost use Rattle.metric_families.specs.Counted.{counted_told, requests_told, replies_told, updates_told, connections_told, store_told, queries, way_sample, opcodes, qtypes, rcodes, update_rcodes, refusals, transfers, connection_ends, ended_in};
+
 use crate::kinds::{COUNTER, GAUGE};
 use crate::single::{put_labelled, put_of_two, single};
 use crate::times::times_family;
@@ -15,7 +19,9 @@ pub fn counter_families(
     families: &mut Vec<Family>,
     sum: &Counters,
     has_store: bool,
-) -> Result<(), AllocError> {
+) -> Result<(), AllocError>
+    ensures { OnOk result (families.new.items ≡ families.old.items ++ counted_told sum.now has_store) }
+{
     put_requests(alloc, families, sum)?;
     put_replies(alloc, families, sum)?;
     put_updates(alloc, families, sum)?;
@@ -28,11 +34,9 @@ pub fn counter_families(
 }
 
 /// Puts the families of requests after others.
-fn put_requests(
-    alloc: Global,
-    families: &mut Vec<Family>,
-    sum: &Counters,
-) -> Result<(), AllocError> {
+fn put_requests(alloc: Global, families: &mut Vec<Family>, sum: &Counters) -> Result<(), AllocError>
+    ensures { OnOk result (families.new.items ≡ families.old.items ++ requests_told sum.now.numbers) }
+{
     families.push(queries(alloc, sum)?)?;
     families.push(opcodes(alloc, sum)?)?;
     families.push(qtypes(alloc, sum)?)?;
@@ -54,11 +58,9 @@ fn put_requests(
 }
 
 /// Puts the families of replies after others.
-fn put_replies(
-    alloc: Global,
-    families: &mut Vec<Family>,
-    sum: &Counters,
-) -> Result<(), AllocError> {
+fn put_replies(alloc: Global, families: &mut Vec<Family>, sum: &Counters) -> Result<(), AllocError>
+    ensures { OnOk result (families.new.items ≡ families.old.items ++ replies_told sum.now.numbers) }
+{
     families.push(rcodes(alloc, sum)?)?;
     families.push(single(
         alloc,
@@ -78,11 +80,9 @@ fn put_replies(
 }
 
 /// Puts the families of updates after others.
-fn put_updates(
-    alloc: Global,
-    families: &mut Vec<Family>,
-    sum: &Counters,
-) -> Result<(), AllocError> {
+fn put_updates(alloc: Global, families: &mut Vec<Family>, sum: &Counters) -> Result<(), AllocError>
+    ensures { OnOk result (families.new.items ≡ families.old.items ++ updates_told sum.now) }
+{
     families.push(update_rcodes(alloc, sum)?)?;
     families.push(single(
         alloc,
@@ -92,6 +92,12 @@ fn put_updates(
         sum.get(Counter::UpdateChanged),
     )?)?;
     families.push(refusals(alloc, sum)?)?;
+    families.push(times_family(
+        alloc,
+        "dnsd_update_seconds",
+        "How long updates took until their reply",
+        &sum.updates,
+    )?)?;
     Ok(())
 }
 
@@ -100,7 +106,9 @@ fn put_connections(
     alloc: Global,
     families: &mut Vec<Family>,
     sum: &Counters,
-) -> Result<(), AllocError> {
+) -> Result<(), AllocError>
+    ensures { OnOk result (families.new.items ≡ families.old.items ++ connections_told sum.now.numbers) }
+{
     let opened = sum.get(Counter::ConnectionOpened);
     let open = opened.saturating_sub(ended_in(sum));
     families.push(single(
@@ -122,11 +130,13 @@ fn put_connections(
 }
 
 /// Puts the families of what a store wrote after others.
-fn put_store(alloc: Global, families: &mut Vec<Family>, sum: &Counters) -> Result<(), AllocError> {
+fn put_store(alloc: Global, families: &mut Vec<Family>, sum: &Counters) -> Result<(), AllocError>
+    ensures { OnOk result (families.new.items ≡ families.old.items ++ store_told sum.now) }
+{
     families.push(times_family(
         alloc,
         "dnsd_store_fsync_seconds",
-        "How long the store took to write and sync a batch",
+        "How long writes of a batch took",
         &sum.syncs,
     )?)?;
     families.push(single(
@@ -154,7 +164,9 @@ fn put_store(alloc: Global, families: &mut Vec<Family>, sum: &Counters) -> Resul
 }
 
 /// How many connections have ended.
-fn ended_in(sum: &Counters) -> u64 {
+fn ended_in(sum: &Counters) -> u64
+    ensures { result ≡ ended_in sum.now.numbers }
+{
     let mut ended = 0u64;
     for reason in ConnectionEnd::ALL {
         ended = ended.saturating_add(sum.get(Counter::ConnectionEnded(reason)));
@@ -162,33 +174,46 @@ fn ended_in(sum: &Counters) -> u64 {
     ended
 }
 
+/// The ways by which requests come.
+const WAYS: [(Transport, AddressFamily); 4] = [
+    (Transport::Udp, AddressFamily::V4),
+    (Transport::Udp, AddressFamily::V6),
+    (Transport::Tcp, AddressFamily::V4),
+    (Transport::Tcp, AddressFamily::V6),
+];
+
 /// The family of requests by transport and address family.
-fn queries(alloc: Global, sum: &Counters) -> Result<Family, AllocError> {
-    let help = "Requests, by transport and by the version of IP";
+fn queries(alloc: Global, sum: &Counters) -> Result<Family, AllocError>
+    ensures { IfOk result (λ family. family ≡ queries sum.now.numbers) }
+{
+    let help = "Requests, by transport and IP version";
     let mut family = Family::new(alloc, "dnsd_queries_total", help, COUNTER);
-    for transport in Transport::ALL {
-        put_of_transport(alloc, &mut family, transport, sum)?;
+    for way in WAYS {
+        put_way(alloc, &mut family, way.0, way.1, sum)?;
     }
     Ok(family)
 }
 
-/// Puts the samples of requests over a transport after others.
-fn put_of_transport(
+/// Puts the sample of a way by which requests come after others.
+fn put_way(
     alloc: Global,
     family: &mut Family,
     transport: Transport,
+    version: AddressFamily,
     sum: &Counters,
-) -> Result<(), AllocError> {
-    for version in AddressFamily::ALL {
-        let number = sum.get(Counter::Request(transport, version));
-        let first = ("transport", transport.word());
-        put_of_two(family, alloc, first, ("family", version.word()), number)?;
-    }
+) -> Result<(), AllocError>
+    ensures { OnOk result (family.new ≡ with_sample family.old (way_sample transport version sum.now.numbers)) }
+{
+    let number = sum.get(Counter::Request(transport, version));
+    let first = ("transport", transport.word());
+    put_of_two(family, alloc, first, ("family", version.word()), number)?;
     Ok(())
 }
 
 /// The family of requests by OPCODE.
-fn opcodes(alloc: Global, sum: &Counters) -> Result<Family, AllocError> {
+fn opcodes(alloc: Global, sum: &Counters) -> Result<Family, AllocError>
+    ensures { IfOk result (λ family. family ≡ opcodes sum.now.numbers) }
+{
     let mut family = Family::new(alloc, "dnsd_requests_total", "Requests, by OPCODE", COUNTER);
     for opcode in Opcode::ALL {
         let number = sum.get(Counter::Opcode(opcode));
@@ -198,7 +223,9 @@ fn opcodes(alloc: Global, sum: &Counters) -> Result<Family, AllocError> {
 }
 
 /// The family of questions by type.
-fn qtypes(alloc: Global, sum: &Counters) -> Result<Family, AllocError> {
+fn qtypes(alloc: Global, sum: &Counters) -> Result<Family, AllocError>
+    ensures { IfOk result (λ family. family ≡ qtypes sum.now.numbers) }
+{
     let mut family = Family::new(
         alloc,
         "dnsd_query_types_total",
@@ -213,7 +240,9 @@ fn qtypes(alloc: Global, sum: &Counters) -> Result<Family, AllocError> {
 }
 
 /// The family of replies by RCODE.
-fn rcodes(alloc: Global, sum: &Counters) -> Result<Family, AllocError> {
+fn rcodes(alloc: Global, sum: &Counters) -> Result<Family, AllocError>
+    ensures { IfOk result (λ family. family ≡ rcodes sum.now.numbers) }
+{
     let mut family = Family::new(alloc, "dnsd_responses_total", "Replies, by RCODE", COUNTER);
     for rcode in Rcode::ALL {
         let number = sum.get(Counter::Reply(rcode));
@@ -223,7 +252,9 @@ fn rcodes(alloc: Global, sum: &Counters) -> Result<Family, AllocError> {
 }
 
 /// The family of replies to updates by RCODE.
-fn update_rcodes(alloc: Global, sum: &Counters) -> Result<Family, AllocError> {
+fn update_rcodes(alloc: Global, sum: &Counters) -> Result<Family, AllocError>
+    ensures { IfOk result (λ family. family ≡ update_rcodes sum.now.numbers) }
+{
     let help = "Replies to updates, by RCODE";
     let mut family = Family::new(alloc, "dnsd_updates_total", help, COUNTER);
     for rcode in Rcode::ALL {
@@ -233,19 +264,13 @@ fn update_rcodes(alloc: Global, sum: &Counters) -> Result<Family, AllocError> {
     Ok(family)
 }
 
-/// The reasons for which updates are counted as refused.
-const REFUSALS: [Refusal; 4] = [
-    Refusal::Permission,
-    Refusal::Prerequisite,
-    Refusal::Form,
-    Refusal::Failure,
-];
-
 /// The family of refused updates by reason.
-fn refusals(alloc: Global, sum: &Counters) -> Result<Family, AllocError> {
-    let help = "Updates that were refused, by the reason";
+fn refusals(alloc: Global, sum: &Counters) -> Result<Family, AllocError>
+    ensures { IfOk result (λ family. family ≡ refusals sum.now.numbers) }
+{
+    let help = "Updates that were refused, by reason";
     let mut family = Family::new(alloc, "dnsd_updates_refused_total", help, COUNTER);
-    for reason in REFUSALS {
+    for reason in Refusal::ALL {
         let number = sum.get(Counter::UpdateRefused(reason));
         put_labelled(&mut family, alloc, "reason", reason.word(), number)?;
     }
@@ -253,8 +278,10 @@ fn refusals(alloc: Global, sum: &Counters) -> Result<Family, AllocError> {
 }
 
 /// The family of transfers by what was asked for and what was sent.
-fn transfers(alloc: Global, sum: &Counters) -> Result<Family, AllocError> {
-    let help = "Requests for a transfer, by what was sent";
+fn transfers(alloc: Global, sum: &Counters) -> Result<Family, AllocError>
+    ensures { IfOk result (λ family. family ≡ transfers sum.now.numbers) }
+{
+    let help = "Requests for transfers, by what was sent";
     let mut family = Family::new(alloc, "dnsd_transfers_total", help, COUNTER);
     for transfer in Transfer::ALL {
         let number = sum.get(Counter::Transfer(transfer));
@@ -271,8 +298,10 @@ fn transfers(alloc: Global, sum: &Counters) -> Result<Family, AllocError> {
 }
 
 /// The family of connections that ended by reason.
-fn connection_ends(alloc: Global, sum: &Counters) -> Result<Family, AllocError> {
-    let help = "TCP connections that ended, by the reason";
+fn connection_ends(alloc: Global, sum: &Counters) -> Result<Family, AllocError>
+    ensures { IfOk result (λ family. family ≡ connection_ends sum.now.numbers) }
+{
+    let help = "TCP connections that ended, by reason";
     let mut family = Family::new(alloc, "dnsd_connections_ended_total", help, COUNTER);
     for reason in ConnectionEnd::ALL {
         let number = sum.get(Counter::ConnectionEnded(reason));

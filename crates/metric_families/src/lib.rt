@@ -5,11 +5,13 @@
 
 mod counted;
 mod kinds;
+mod process;
 mod server;
 mod single;
 mod times;
 
 pub use counted::counter_families;
+pub use process::{ProcessFacts, process_families};
 pub use server::{
     Drops, Facts, SecondaryFacts, StoreFacts, drop_families, secondary_families, server_families,
     store_families,

@@ -1,4 +1,7 @@
 //! What is known of a server without counters.
+ghost use Rattle.std.specs.Prelude.{◌≡◌, ◌++◌, OnOk};
+ghost use Rattle.metric_families.specs.Known.{store_seen};
+
 use crate::kinds::{COUNTER, GAUGE};
 use crate::single::{labelled_single, put_labelled, put_of_two, single};
 use metrics_text::Family;
@@ -69,8 +72,8 @@ fn put_zone(alloc: Global, families: &mut Vec<Family>, facts: Facts<'_>) -> Resu
 pub struct StoreFacts {
     /// Whether the last write failed.
     pub is_failing: bool,
-    /// How many octets the journal has; None where that isn't known yet.
-    pub journal: Option<u64>,
+    /// How many octets the journal has.
+    pub journal: u64,
 }
 
 /// Puts the families of what is known of a store after others. The fault is a request for memory that was refused; some may then be there.
@@ -78,23 +81,23 @@ pub fn store_families(
     alloc: Global,
     families: &mut Vec<Family>,
     facts: StoreFacts,
-) -> Result<(), AllocError> {
+) -> Result<(), AllocError>
+    ensures { OnOk result (families.new.items ≡ families.old.items ++ store_seen facts.is_failing facts.journal) }
+{
     families.push(single(
         alloc,
         "dnsd_store_failing",
-        "Whether the last write of the store failed",
+        "Whether the last write failed",
         GAUGE,
         u64::from(facts.is_failing),
     )?)?;
-    if let Some(octets) = facts.journal {
-        families.push(single(
-            alloc,
-            "dnsd_store_journal_bytes",
-            "Bytes of the store's journal",
-            GAUGE,
-            octets,
-        )?)?;
-    }
+    families.push(single(
+        alloc,
+        "dnsd_store_journal_bytes",
+        "Bytes of the store's journal",
+        GAUGE,
+        facts.journal,
+    )?)?;
     Ok(())
 }
 

@@ -1,7 +1,7 @@
 //! Samples with one label or none, and families of one sample.
 ghost use Rattle.std.specs.Prelude.{◌≡◌, IfOk, OnOk};
 ghost use Rattle.metrics_text.specs.Families.{empty_family, with_sample};
-ghost use Rattle.metric_families.specs.Samples.{one_label, whole_sample};
+ghost use Rattle.metric_families.specs.Samples.{one_label, two_labels, whole_sample};
 
 use metrics_text::{Family, Kind, Label, Number, Sample};
 use std::alloc::{AllocError, Global};
@@ -58,7 +58,9 @@ pub(crate) fn put_of_two(
     first: (&'static str, &str),
     second: (&'static str, &str),
     number: u64,
-) -> Result<(), AllocError> {
+) -> Result<(), AllocError>
+    ensures { OnOk result (family.new ≡ with_sample family.old (two_labels first.entry.0.now first.entry.1.now second.entry.0.now second.entry.1.now number)) }
+{
     let mut sample = Sample::new(alloc, Number::Whole(number));
     sample.push_label(Label::new(alloc, first.0, first.1)?)?;
     sample.push_label(Label::new(alloc, second.0, second.1)?)?;

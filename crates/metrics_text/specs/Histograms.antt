@@ -2,7 +2,7 @@
 use Rattle.std.specs.Prelude.{ℕ, ◌+◌, ◌-◌, ◌^◌, List, [], ◌∷◌, ◌++◌, codes, min}
 use Rattle.metrics_text.specs.declared.number.Number.{Number}
 use Rattle.metrics_text.specs.declared.number.Number.TheVariants.{Whole, Nanoseconds}
-use Rattle.metrics_text.specs.Samples.{LabelOf, SampleOf, labelled}
+use Rattle.metrics_text.specs.Samples.{SampleOf}
 use Rattle.metrics_text.specs.Buckets.{BucketOf}
 
 -- two numbers together, up to the most that 64 bits hold

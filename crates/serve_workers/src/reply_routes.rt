@@ -5,7 +5,7 @@ use crate::signed_jobs::SharedKeys;
 use crate::thread_spec::{Sockets, ThreadSpec};
 use crate::updates::Updates;
 use counters::{Rcode, ServerCounters};
-use message_counts::rcode_of;
+use message_counts::{id_of, nanos_of, rcode_of};
 use signed_replies::{QueuedSigner, SystemClock};
 use std::alloc::Global;
 use std::io;
@@ -35,6 +35,7 @@ pub(crate) struct ReplyRoutes<'a, C> {
     signer: Option<QueuedSigner<'a, SystemClock<'a, C>>>,
     /// Where the replies by datagram are counted, if they are.
     counters: Option<&'a ServerCounters>,
+    clock: &'a C,
 }
 
 /// What signs the replies by these keys, if there are any. An error where an allocation fails.
@@ -85,15 +86,26 @@ impl<'a, C: Clock> ReplyRoutes<'a, C> {
             paths,
             signer,
             counters,
+            clock,
         })
     }
 }
 
-/// Counts a reply to an update, which is sent as so many octets.
-fn count(counters: Option<&ServerCounters>, reply: &[u8], octets: usize) {
-    if let Some(counters) = counters {
-        let rcode = Rcode::of(rcode_of(reply));
-        counters.updates().stream_update(rcode, octets as u64);
+/// Counts a reply to an update, which is sent as so many octets by the thread at a place, and how long the update took.
+fn count<C: Clock>(
+    counters: Option<&ServerCounters>,
+    clock: &C,
+    (worker, to): (usize, SocketAddr),
+    reply: &[u8],
+    octets: usize,
+) {
+    let Some(counters) = counters else {
+        return;
+    };
+    let rcode = Rcode::of(rcode_of(reply));
+    counters.updates().stream_update(rcode, octets as u64);
+    if let Some(thread) = counters.thread(worker) {
+        thread.end_update(to, id_of(reply), nanos_of(clock));
     }
 }
 
@@ -111,13 +123,25 @@ impl<C: Clock> ReplySender for ReplyRoutes<'_, C> {
             return;
         };
         let Some(tsig) = tsig else {
-            count(self.counters, octets, octets.len());
+            count(
+                self.counters,
+                self.clock,
+                (worker, to),
+                octets,
+                octets.len(),
+            );
             let _ = is_sent(socket, octets, to);
             return;
         };
         if let Some(signer) = &mut self.signer {
             if let Some(signed) = signer.sign(tsig, octets) {
-                count(self.counters, octets, signed.len());
+                count(
+                    self.counters,
+                    self.clock,
+                    (worker, to),
+                    octets,
+                    signed.len(),
+                );
                 let _ = is_sent(socket, signed, to);
             }
         }

@@ -162,7 +162,7 @@ fn counted_udp_job<'a, R: Clock>(
     ensures kind { IfOk result (λ job. takes_datagrams job ≡ true) }
     ensures rights { IfOk result (λ job. HasRights plan.entry.connections.allowed.rules.now job) }
 {
-    let counts = ThreadCounts::new(shown);
+    let counts = ThreadCounts::new(shown, rt);
     match udp_job(alloc, worker, socket, stop, plan, counts, scratch) {
         Ok(job) => match plan.keys {
             None => Ok(SocketJob::CountedDatagrams(job)),
@@ -217,13 +217,13 @@ fn counted_tcp_job<'a, R: Clock + Net + Wait>(
 {
     let Some(keys) = plan.keys else {
         return match tcp_job(rt, alloc, worker, listeners, plan, stop, wakes, scratch) {
-            Ok(job) => Ok(SocketJob::CountedConnections(CountedJob::new(job, shown))),
+            Ok(job) => Ok(SocketJob::CountedConnections(CountedJob::new(job, shown, rt))),
             Err(fault) => Err(fault),
         };
     };
     match tcp_job(rt, alloc, worker, listeners, plan, stop, wakes, scratch) {
         Ok(job) => {
-            let counted = CountedJob::new(job, shown);
+            let counted = CountedJob::new(job, shown, rt);
             Ok(SocketJob::CountedSignedConnections(SignedJob::new(counted, keys, rt)))
         }
         Err(fault) => Err(fault),

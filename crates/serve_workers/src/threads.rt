@@ -32,7 +32,7 @@ pub type TcpJob<'a, M, C> = ConnectionsJob<'a, TcpPeer, Watch<'a, C>, TcpPlace, 
 pub type UdpJob<'a, T> = DatagramsJob<'a, WorkerSocket<'a, T>>;
 
 /// A job on the system's TCP connections whose requests are counted.
-type CountedTcpJob<'a, M, C> = CountedJob<'a, TcpJob<'a, CountedMessages<'a, M>, C>>;
+type CountedTcpJob<'a, M, C> = CountedJob<'a, TcpJob<'a, CountedMessages<'a, M>, C>, C>;
 
 /// A job on TCP connections whose requests may be signed.
 type SignedTcpJob<'a, C> = SignedJob<'a, TcpJob<'a, SignedMessages<'a, Transfer>, C>, C>;
@@ -56,11 +56,11 @@ pub enum SocketJob<'a, C> {
     /// Serves TCP connections, whose requests may be signed.
     SignedConnections(SignedTcpJob<'a, C>),
     /// Answers requests by UDP, and counts them.
-    CountedDatagrams(UdpJob<'a, ThreadCounts<'a>>),
+    CountedDatagrams(UdpJob<'a, ThreadCounts<'a, C>>),
     /// Serves TCP connections, and counts their requests.
     CountedConnections(CountedTcpJob<'a, Transfer, C>),
     /// Answers requests by UDP, which may be signed, and counts them.
-    CountedSignedDatagrams(SignedJob<'a, UdpJob<'a, ThreadCounts<'a>>, C>),
+    CountedSignedDatagrams(SignedJob<'a, UdpJob<'a, ThreadCounts<'a, C>>, C>),
     /// Serves TCP connections, whose requests may be signed, and counts these.
     CountedSignedConnections(CountedSignedTcpJob<'a, C>),
     /// Notifies the secondaries of each version.
@@ -133,7 +133,7 @@ fn serve_counted_connections<'g, 's, R: Wait, Z: FirstZone, N: ServerName, L: Se
     let handler = ConnectionHandler::new(alloc, server, reader, log, peer, nobody());
     let handler = handler.with_rules(counted.job.allowed());
     let handler = handler.with_sender(sender);
-    let counts = ThreadCounts::new(counted.shown);
+    let counts = ThreadCounts::new(counted.shown, counted.clock);
     let mut handler = CountingConnections::new(handler, counts, nobody());
     let end = counted.job.serve(rt, &mut handler, log);
     (handler.into_inner().into_reader(rt), end)
@@ -276,7 +276,7 @@ fn serve_counted_signed<
         peer,
         nobody(),
     );
-    let counts = ThreadCounts::new(signed.job.shown);
+    let counts = ThreadCounts::new(signed.job.shown, signed.job.clock);
     let mut handler = CountingConnections::new(handler, counts, nobody());
     let end = signed.job.job.serve(rt, &mut handler, log);
     (handler.into_inner().into_inner().into_reader(rt), end)
@@ -382,7 +382,7 @@ impl<'g, C: Clock> SocketJob<'g, C> {
                 serve_counted_connections(rt, alloc, server, log, sender, reader, counted)
             }
             SocketJob::CountedSignedDatagrams(signed) => {
-                serve_signed_datagrams::<R, Z, N, L, C, Brand, ThreadCounts<'g>>(
+                serve_signed_datagrams::<R, Z, N, L, C, Brand, ThreadCounts<'g, C>>(
                     rt, alloc, server, log, sender, reader, signed,
                 )
             }

@@ -5,7 +5,7 @@ ghost use Rattle.requests.specs.Served.{Grows};
 use crate::control_reload::{Reload, Step, abandon, after_judging, after_making, order};
 use crate::control_text::{ServedSince, StoreStatus, done, failed, stats, status};
 use crate::reload_slot::{ReloadOrder, Reloads};
-use crate::served_facts::{About, RecordCount, metrics_of};
+use crate::served_facts::{About, RecordCount, metrics_of, store_facts};
 use crate::shutdown::Shutdown;
 use control_socket::{ControlClient, ControlCommand, Heard, accept_client};
 use counters::ServerCounters;
@@ -351,6 +351,7 @@ impl<'a, C: Clock> ControlJob<'a, C> {
     {
         let records = self.records.of(version);
         let (about, started) = (self.plan.about, self.started);
+        let store = store_facts(rt, self.alloc, &self.plan.store)?;
         let lines = match self.counters {
             Some(server) => {
                 let mut rounds = Vec::new(self.alloc);
@@ -362,9 +363,10 @@ impl<'a, C: Clock> ControlJob<'a, C> {
                     version,
                     records,
                     Some((server, &sum)),
+                    store,
                 )?
             }
-            None => metrics_of(self.alloc, about, started, version, records, None)?,
+            None => metrics_of(self.alloc, about, started, version, records, None, store)?,
         };
         stats(self.alloc, &lines)
     }

@@ -3,8 +3,9 @@ ghost use Rattle.std.specs.Prelude.{◌≡◌, Some, IfOk};
 ghost use Rattle.requests.specs.Served.{Grows};
 
 use crate::metrics_client::{MetricsClient, accept_client};
+use crate::process_files::ProcessFiles;
 use crate::rates::{Rates, is_due};
-use crate::served_facts::{About, RecordCount, metrics_of, put_drops};
+use crate::served_facts::{About, RecordCount, metrics_of, put_drops, put_process, store_facts};
 use crate::shutdown::Shutdown;
 use crate::thread_rounds::ThreadRounds;
 use crate::udp_drops::UdpDrops;
@@ -15,11 +16,13 @@ use http_page::{
     Asked, Content, Health, Line, Overview, Secondary, Status, health_of, write_page, write_reply,
 };
 use log_lines::RecentLines;
+use metric_families::StoreFacts;
 use std::alloc::{AllocError, Global};
 use std::net::TcpListener;
 use std::sync::{Arc, Wait};
 use std::thread;
 use std::time::{Clock, Duration};
+use update_batches::SharedStoreState;
 use zone_server::{JobEnd, LocalUpdates};
 use zone_tree::{Version, ZoneRead};
 
@@ -41,10 +44,14 @@ pub struct MetricsPlan {
     pub listener: TcpListener,
     /// What the system dropped.
     pub drops: UdpDrops,
+    /// What the system knows of the process.
+    pub process: ProcessFiles,
     /// The last lines of the log.
     pub lines: Arc<RecentLines, Global>,
     /// How many threads of the server answer no requests, with this one.
     pub beside: usize,
+    /// What is seen of the store; None where there is none.
+    pub store: Option<SharedStoreState>,
     /// What the server is.
     pub about: About,
 }
@@ -54,8 +61,10 @@ impl Drop for MetricsPlan {
         let MetricsPlan {
             listener: _,
             drops: _,
+            process: _,
             lines: _,
             beside: _,
+            store: _,
             about: _,
         } = self;
     }
@@ -287,7 +296,7 @@ impl<'a, C: Clock> MetricsJob<'a, C> {
     {
         match asked {
             Asked::Metrics | Asked::Page => self.reply_of_version(rt, handler, asked, now),
-            Asked::Health => self.health(now),
+            Asked::Health => self.health(rt, now),
             Asked::Unknown => empty(self.alloc, Status::NotFound),
             Asked::OtherMethod => empty(self.alloc, Status::MethodNotAllowed),
             Asked::Bad | Asked::More => empty(self.alloc, Status::BadRequest),
@@ -331,39 +340,34 @@ impl<'a, C: Clock> MetricsJob<'a, C> {
             None => None,
         };
         let (alloc, about) = (self.alloc, self.plan.about);
-        let mut body = metrics_of(alloc, about, self.started, version, records, counted)?;
+        let store = store_facts(rt, alloc, &self.plan.store)?;
+        let mut body = metrics_of(alloc, about, self.started, version, records, counted, store)?;
         let drops = self.plan.drops.read(alloc)?;
         if let Some(drops) = &drops {
             put_drops(alloc, &mut body, drops.as_slice())?;
+        }
+        if let Some(facts) = self.plan.process.read(alloc)? {
+            put_process(alloc, &mut body, facts)?;
         }
         replied(self.alloc, Status::Ok, Content::Metrics, &body)
     }
 
     /// Whether the server is healthy.
-    fn health(&self, now: u64) -> Result<Vec<u8>, AllocError> {
-        let health = self.health_at(now);
+    fn health<R: Wait>(&self, rt: &R, now: u64) -> Result<Vec<u8>, AllocError> {
+        let health = self.health_at(rt, now)?;
         let mut body = Vec::new(self.alloc);
         health.write(&mut body)?;
         replied(self.alloc, health.status(), Content::Text, &body)
     }
 
-    /// Whether the last write of the store failed.
-    fn is_store_failing(&self) -> bool {
-        match self.counters {
-            Some(counters) => counters.is_store_failing(),
-            None => false,
-        }
-    }
-
     /// Whether the server is healthy.
-    fn health_at(&self, now: u64) -> Health {
-        let is_failing = self.is_store_failing();
-        health_of(
-            self.shutdown.is_ending(),
-            is_failing,
-            self.threads.since(),
-            now,
-        )
+    fn health_at<R: Wait>(&self, rt: &R, now: u64) -> Result<Health, AllocError> {
+        let is_failing = match store_facts(rt, self.alloc, &self.plan.store)? {
+            Some(facts) => facts.is_failing,
+            None => false,
+        };
+        let is_ending = self.shutdown.is_ending();
+        Ok(health_of(is_ending, is_failing, self.threads.since(), now))
     }
 
     /// The page for a person.
@@ -372,7 +376,8 @@ impl<'a, C: Clock> MetricsJob<'a, C> {
     {
         let records = self.records.of(version);
         let lines = lines_of(self.alloc, self.plan.lines.copy(rt)?)?;
-        let overview = self.overview(version, records, lines, now)?;
+        let store = store_word(store_facts(rt, self.alloc, &self.plan.store)?);
+        let overview = self.overview(version, records, store, lines, now)?;
         let mut body = Vec::new(self.alloc);
         write_page(&mut body, &overview)?;
         replied(self.alloc, Status::Ok, Content::Page, &body)
@@ -395,6 +400,7 @@ impl<'a, C: Clock> MetricsJob<'a, C> {
         &self,
         version: &Version,
         records: u64,
+        store: &str,
         lines: Vec<Line>,
         now: u64,
     ) -> Result<Overview, AllocError> {
@@ -403,13 +409,6 @@ impl<'a, C: Clock> MetricsJob<'a, C> {
         let mut graphs = Vec::new(alloc);
         graphs.push(self.queries.graph(alloc, "Requests in each second")?)?;
         graphs.push(self.updates.graph(alloc, "Updates in each second")?)?;
-        let store = if !self.plan.about.has_store {
-            "none"
-        } else if self.is_store_failing() {
-            "failing"
-        } else {
-            "ok"
-        };
         Ok(Overview {
             zone: String::from_str(alloc, zone.apex().to_text().as_str())?,
             serial: zone.serial().0,
@@ -420,6 +419,20 @@ impl<'a, C: Clock> MetricsJob<'a, C> {
             secondaries: self.secondaries()?,
             lines,
         })
+    }
+}
+
+/// What the page says of a store.
+fn store_word(store: Option<StoreFacts>) -> &'static str {
+    match store {
+        None => "none",
+        Some(
+            StoreFacts {
+                is_failing: true,
+                ..
+            },
+        ) => "failing",
+        Some(_) => "ok",
     }
 }
 

@@ -1,11 +1,13 @@
 //! What a server tells of itself, for Prometheus.
 use counters::{Counters, ServerCounters};
 use metric_families::{
-    Drops, Facts, SecondaryFacts, StoreFacts, counter_families, drop_families, secondary_families,
-    server_families, store_families,
+    Drops, Facts, ProcessFacts, SecondaryFacts, StoreFacts, counter_families, drop_families,
+    process_families, secondary_families, server_families, store_families,
 };
 use metrics_text::{Family, write_metrics};
 use std::alloc::{AllocError, Global};
+use std::sync::Wait;
+use update_batches::SharedStoreState;
 use zone_tree::{Version, Zone, ZoneRead};
 
 /// What a server is.
@@ -15,8 +17,6 @@ pub struct About {
     pub program: &'static str,
     /// When it was started, in seconds since 1970.
     pub started: u64,
-    /// Whether its updates are stored.
-    pub has_store: bool,
 }
 
 /// How many records the last version has that they were counted of.
@@ -45,7 +45,7 @@ impl RecordCount {
     }
 }
 
-/// What is told of a server with its version that was published last.
+/// What is told of a server with its version that was published last, and of its store, if it has one.
 pub(crate) fn metrics_of(
     alloc: Global,
     about: About,
@@ -53,6 +53,7 @@ pub(crate) fn metrics_of(
     version: &Version,
     records: u64,
     counted: Option<(&ServerCounters, &Counters)>,
+    store: Option<StoreFacts>,
 ) -> Result<Vec<u8>, AllocError> {
     let zone = version.zone();
     let apex = zone.apex().to_text();
@@ -67,29 +68,40 @@ pub(crate) fn metrics_of(
     let mut families = Vec::new(alloc);
     server_families(alloc, &mut families, facts)?;
     if let Some((server, sum)) = counted {
-        put_counted(alloc, &mut families, about, server, sum)?;
+        put_counted(alloc, &mut families, server, sum, store.is_some())?;
+    }
+    if let Some(facts) = store {
+        store_families(alloc, &mut families, facts)?;
     }
     let mut text = Vec::new(alloc);
     write_metrics(&mut text, families.as_slice())?;
     Ok(text)
 }
 
+/// What is seen of a store, if there is one. The fault is a request for memory that was refused.
+pub(crate) fn store_facts<R: Wait>(
+    rt: &R,
+    alloc: Global,
+    store: &Option<SharedStoreState>,
+) -> Result<Option<StoreFacts>, AllocError> {
+    match store {
+        None => Ok(None),
+        Some(state) => Ok(Some(StoreFacts {
+            is_failing: state.fault(rt, alloc)?.is_some(),
+            journal: state.journal(),
+        })),
+    }
+}
+
 /// Puts the families of what is counted after others.
 fn put_counted(
     alloc: Global,
     families: &mut Vec<Family>,
-    about: About,
     server: &ServerCounters,
     sum: &Counters,
+    has_store: bool,
 ) -> Result<(), AllocError> {
-    counter_families(alloc, families, sum, about.has_store)?;
-    if about.has_store {
-        let facts = StoreFacts {
-            is_failing: server.is_store_failing(),
-            journal: server.journal(),
-        };
-        store_families(alloc, families, facts)?;
-    }
+    counter_families(alloc, families, sum, has_store)?;
     if !server.secondaries().is_empty() {
         let secondaries = secondaries_of(alloc, server)?;
         secondary_families(alloc, families, secondaries.as_slice())?;
@@ -105,6 +117,17 @@ pub(crate) fn put_drops(
 ) -> Result<(), AllocError> {
     let mut families = Vec::new(alloc);
     drop_families(alloc, &mut families, drops)?;
+    write_metrics(text, families.as_slice())
+}
+
+/// Puts what the system knows of the process at the end of what is told.
+pub(crate) fn put_process(
+    alloc: Global,
+    text: &mut Vec<u8>,
+    facts: ProcessFacts,
+) -> Result<(), AllocError> {
+    let mut families = Vec::new(alloc);
+    process_families(alloc, &mut families, facts)?;
     write_metrics(text, families.as_slice())
 }
 

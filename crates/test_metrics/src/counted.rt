@@ -62,10 +62,11 @@ fn counts_messages(rt: HostRuntime) {
 
 // What a thread showed last is what others see of it.
 #[test]
-fn shows_numbers(rt: HostRuntime) {
-    let shared = SharedCounters::new();
+fn shows_numbers(rt: HostRuntime) -> Result<(), std::alloc::AllocError> {
+    let shared = SharedCounters::new(rt.alloc())?;
     let shown = shared.show(&numbers());
     let mut sum = Counters::new();
     let rounds = shared.add_to(&rt, &mut sum);
     assert_eq!(rt; (shown, others_in(&sum), rounds), (true, 0, 1));
+    Ok(())
 }

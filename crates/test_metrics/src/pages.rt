@@ -74,7 +74,7 @@ fn finds_stuck_threads(rt: HostRuntime) {
 
 /// The page of the overview below.
 const PAGE: &str =
-    "<!DOCTYPE html>\n<html lang=\"en\"><head><meta charset=\"utf-8\"><meta http-equiv=\"refresh\" content=\"5\"><title>dnsd</title></head><body>\n<h1>example.test.</h1>\n<p>serial 7, records 13, up 61 s, store ok</p>\n<h2>requests per second, at most 40</h2>\n<svg viewBox=\"0 0 600 100\"><polyline points=\"0,100 5,50 10,0 \"/></svg>\n<h2>secondaries</h2>\n<table><tr><th>address</th><th>sent</th><th>answered</th><th>given up</th><th>serial</th><th>behind</th></tr>\n<tr><td>192.0.2.1:53</td><td>3</td><td>2</td><td>1</td><td>4294967295</td><td>8</td></tr>\n<tr><td>[2001:db8::1]:53</td><td>0</td><td>0</td><td>0</td><td>none</td></tr>\n</table>\n<h2>log</h2>\n<pre>\na &lt;b&gt; &amp; &quot;c&quot;\n</pre>\n</body></html>\n";
+    "<!DOCTYPE html>\n<html lang=\"en\"><head><meta charset=\"utf-8\"><meta http-equiv=\"refresh\" content=\"5\"><title>dnsd</title></head><body>\n<h1>example.test.</h1>\n<p>serial 7, records 13, up 61 s, store ok</p>\n<h2>requests per second, at most 40</h2>\n<svg viewBox=\"0 0 600 100\" width=\"900\"><polyline fill=\"none\" stroke=\"#06c\" points=\"0,100 5,50 10,0 \"/></svg>\n<h2>secondaries</h2>\n<table><tr><th>address</th><th>sent</th><th>answered</th><th>given up</th><th>serial</th><th>behind</th></tr>\n<tr><td>192.0.2.1:53</td><td>3</td><td>2</td><td>1</td><td>4294967295</td><td>8</td></tr>\n<tr><td>[2001:db8::1]:53</td><td>0</td><td>0</td><td>0</td><td>none</td></tr>\n</table>\n<h2>log</h2>\n<pre>\na &lt;b&gt; &amp; &quot;c&quot;\n</pre>\n</body></html>\n";
 
 /// A secondary.
 fn secondary(

@@ -11,6 +11,7 @@ use Rattle.std.proofs.option.Option.TheSendSync as option
 use Rattle.std.proofs.sync.Mutex.TheSendSync as mutex
 use Rattle.snapshot_cell.proofs.SendLemmas as cell
 use Rattle.snapshot_cell.specs.declared.named.Naming as naming
+use Rattle.counters.proofs.SendLemmas as shown
 use Rattle.dns_engine.proofs.SendLemmas as engine
 use Rattle.dns_engine.specs.declared.versions.FirstZone.{Ghosts}
 use Rattle.dns_message.specs.contracts.query.Query as query
@@ -101,7 +102,7 @@ told_send : IsSend (told.the_field).row
 told_send = search (array_vec.the_send, option.the_field_send, option.the_send, crossing.crosses, sendable) depth 60 fits 20000
 
 pub telling_send : (a : NamedLft) (C : RattleType) → IsSync C → IsSend (telling.the_field a C).row
-telling_send a C ticks = search (told_send, keys_sync, option.the_field_send, option.the_send, global.the_field_send, crossing.crosses, sendable) depth 60 fits 20000
+telling_send a C ticks = search (told_send, keys_sync, shown.server_sync, option.the_field_send, option.the_send, global.the_field_send, crossing.crosses, sendable) depth 60 fits 20000
 
 pub datagram_handler_send : (a b : NamedLft) (T N L : RattleType) (g : Ghosts T.Denot) (n : naming.Ghosts N.Denot) (s : server_names.Ghosts N.Denot) → IsSync L → IsSend (asked.the_field a b T N L n g s).row
 datagram_handler_send a b T N L g n s hears =

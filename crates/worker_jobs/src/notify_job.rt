@@ -158,15 +158,11 @@ impl<'a, C: Clock> NotifyJob<'a, C> {
             match next {
                 NextTurn::Look(wait) => return Ok(wait),
                 NextTurn::Due(Due::Silent(secondary)) => {
-                    if let Some(counted) = counted_of(self.counters, secondary) {
-                        counted.give_up();
-                    }
+                    count_silent(self.counters, secondary);
                     log.tell(rt, Event::Silent { secondary });
                 }
                 NextTurn::Due(Due::Send { to, len }) => {
-                    if let Some(counted) = counted_of(self.counters, to) {
-                        counted.send(serial_in(&out[..len]));
-                    }
+                    count_sent(self.counters, to, &out[..len]);
                     self.send(to, &out[..len]);
                     self.sent = self.sent.saturating_add(1);
                 }
@@ -280,6 +276,20 @@ fn counted_of(
     match counters {
         Some(counters) => counters.secondary(secondary),
         None => None,
+    }
+}
+
+/// Counts that a secondary is given up, if that is counted.
+fn count_silent(counters: Option<&ServerCounters>, secondary: SocketAddr) {
+    if let Some(counted) = counted_of(counters, secondary) {
+        counted.give_up();
+    }
+}
+
+/// Counts a NOTIFY that is sent to a secondary, if that is counted.
+fn count_sent(counters: Option<&ServerCounters>, to: SocketAddr, octets: &[u8]) {
+    if let Some(counted) = counted_of(counters, to) {
+        counted.send(serial_in(octets));
     }
 }
 

@@ -236,7 +236,7 @@ impl<T: DatagramCounts> Datagrams for WorkerSocket<'_, T> {
 
     // The failure of a reply that was held back is counted by a later call.
     fn send(&mut self, octets: &[u8], to: SocketAddr) {
-        self.counts.sent(octets);
+        self.counts.sent(octets, to);
         let is_held = match self.mode {
             Mode::Taking(_) => self.held.hold(octets, to),
             Mode::Waiting(_) => false,
