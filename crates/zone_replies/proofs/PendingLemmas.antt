@@ -94,6 +94,12 @@ put_left taken rest left key one entry is out put poll said =
     put ∙ ap (λ (l : List (Option PendingState)). slice_set l key entry) out ∙ set_twice taken key None entry ∙ ap (λ (e : Option PendingState). slice_set taken key e) said
     ∙ ap (λ (e : Option (Option PendingState)). slice_set taken key (left_in poll e)) (sym (entry_there (slice_get taken key) one is))
 
+-- none are put back where none are left
+pub none_left : (taken rest : List (Option PendingState)) (key : ℕ) (one : PendingState) → Some one ≡ entry_in taken key → rest ≡ slice_set taken key None → (poll : Poll) → None ≡ left_of poll one
+    → rest ≡ slice_set taken key (left_in poll (slice_get taken key))
+none_left taken rest key one is out poll said =
+    out ∙ ap (λ (e : Option PendingState). slice_set taken key e) said ∙ ap (λ (e : Option (Option PendingState)). slice_set taken key (left_in poll e)) (sym (entry_there (slice_get taken key) one is))
+
 -- what was known when the first update of an entry was submitted stays, and else grows with what the reader has learned
 asked_grows : (entry : Option (Option PendingState)) (before after : ReaderState Version) → Grows (learned_by after) (learned_by before) → Grows (asked_of entry after) (asked_of entry before)
 asked_grows None before after grown = grown

@@ -22,8 +22,8 @@ apart len is = cc
 same_len : (len same : ℕ) → ◌≡◌ {A = Reply Transfer} (One len) (One same) → len ≡ same
 same_len len same is = cc
 
-pub invariant_of-self-in-Pending : goal.invariant_of-self-in-Pending
-invariant_of-self-in-Pending g c =
+pub invariant_of-self : goal.invariant_of-self
+invariant_of-self g c =
     let grown = meets_grows g.Z.FirstZone.zone c.self.inside.reader c.fetch.new.reader c.fetch.ensures.met.0 c.fetch.ensures.met.1 in
     left_all c.self.inside.reader c.fetch.new.reader grown c.self.inside.taken c.self.inside.asker c.fetch.result c.fetch.new.self c.fetch.ensures.rest c.self.invariant
 
