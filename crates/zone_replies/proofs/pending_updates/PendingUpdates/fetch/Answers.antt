@@ -3,8 +3,8 @@ use Rattle.std.proofs.Common.{Some, sym, ◌∙◌}
 use Rattle.zone_replies.proofs.PendingLemmas.{none_left, out_none, place_entry, place_within, put_left, set_length}
 use Rattle.zone_replies.proofs.pending_updates.PendingUpdates.fetch.Goals as goal
 
-pub unreachable-unreachable : goal.unreachable-unreachable
-unreachable-unreachable g c = place_entry c.args.self.now c.args.key c.requires.some.0 c.requires.some.1 (sym c.in_default.ensures.taken)
+pub unreachable-requires : goal.unreachable-requires
+unreachable-requires g c = place_entry c.args.self.now c.args.key c.requires.some.0 c.requires.some.1 (sym c.in_default.ensures.taken)
 
 pub put-requires-clause-room : goal.put-requires-clause-room
 put-requires-clause-room g c = set_length c.args.self.now c.take.new.self c.args.key c.take.ensures.rest (place_within c.args.self.now c.args.key c.in-Some.pending (sym c.in-Some.is ∙ c.take.ensures.taken))
