@@ -378,6 +378,8 @@ fn serve_with_updates<
 /// Serves the versions of a server's cell, by jobs with `readers`, while `judge` judges the updates that they submit to `updates`. All readers come back in `readers`, which
 /// has room for one more. Fails as [`serve_on_threads`] does.
 fn serve_with_judge<
+    'g,
+    's,
     R: Threads + Wait + Clock + Sync,
     Z: FirstZone + Send + Sync,
     N: ServerName + Send + Sync,
@@ -386,13 +388,13 @@ fn serve_with_judge<
 >(
     rt: &R,
     alloc: Global,
-    server: &Server<'_, Z, N>,
-    shutdown: &Shutdown,
-    updates: &Updates,
+    server: &'g Server<'s, Z, N>,
+    shutdown: &'g Shutdown,
+    updates: &'g Updates,
     judge: Judge<'_, '_, RoutedPublisher<'_, '_, Z, N, L, R>, S>,
     readers: &mut Vec<VersionReader<N>>,
-    jobs: Vec<SocketJob<'_, R>>,
-    log: &L,
+    jobs: Vec<SocketJob<'g, R>>,
+    log: &'g L,
 ) -> Result<(), ServeFault>
     requires count { vec_len readers.old ≡ vec_len jobs }
     requires room { vec_len readers.old < vec_capacity readers.old }
