@@ -44,7 +44,7 @@ pub(crate) struct RefusedFile {
 
 impl ZoneText {
     /// The text of a source, with the files that it includes; `is_wide` is whether it is read as other servers read zone files, its names relative to the
-    /// origin: a byte order mark in front of it is passed over then. Each command reads by this function, and a server at its start and at a reload.
+    /// origin: a byte order mark at its start is passed over then. Each command reads by this function, and a server at its start and at a reload.
     pub(crate) fn of(
         alloc: Global,
         source: Vec<u8>,
