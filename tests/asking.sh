@@ -27,7 +27,7 @@ check() {
 # Starts the server over a zone's file, with these options, and waits until it says that it listens.
 serve() {
     rm -f "$work/dnsd.log"
-    "$program" serve --listen "127.0.0.1:$port" --workers 8 "${@:2}" "$1" 2>"$work/dnsd.log" &
+    "$program" serve --listen "127.0.0.1:$port" --workers "${workers:-8}" "${@:2}" "$1" 2>"$work/dnsd.log" &
     server=$!
     started+=("$server")
     for _ in $(seq 100); do

@@ -31,6 +31,8 @@ pub enum CommandFault<'a> {
     Time(&'static str, &'a str),
     /// The address to listen on is not an address with a port.
     Listen(&'a str),
+    /// The address for metrics is not an address with a port.
+    Metrics(&'a str),
     /// An entry in the list of those that may update and transfer is neither an address nor a prefix.
     Allow(RuleFault<'a>),
     /// The name of the key is not a valid name.
@@ -79,6 +81,7 @@ impl<'a> Drop for CommandFault<'a> {
             } => {}
             CommandFault::Time(_, _) => {}
             CommandFault::Listen(_) => {}
+            CommandFault::Metrics(_) => {}
             CommandFault::Allow(_) => {}
             CommandFault::Key(_, _) => {}
             CommandFault::Threads(_, _) => {}
@@ -140,6 +143,11 @@ pub fn tell_fault<R: Print + Eprint>(rt: &R, fault: &CommandFault<'_>) -> io::Re
                 "error: --listen: '{word}' is not an address and port, such as 127.0.0.1:5353 or [::1]:5353"
             )?;
         }
+        CommandFault::Metrics(word) => {
+            eprintln!(rt;
+                "error: --metrics: '{word}' is not an address and port, such as 127.0.0.1:9153 or [::1]:9153"
+            )?;
+        }
         CommandFault::Allow(RuleFault::Address(word)) => {
             eprintln!(rt;
                 "error: --allow: '{word}' is not an address or a prefix; separate them by commas, such as 127.0.0.1,192.0.2.0/24"
@@ -151,7 +159,7 @@ pub fn tell_fault<R: Print + Eprint>(rt: &R, fault: &CommandFault<'_>) -> io::Re
         }
         CommandFault::Threads(workers, addresses) => {
             eprintln!(rt;
-                "error: --workers {workers} with {addresses} addresses needs more than 62 threads: each worker has one for TCP, and one for UDP on each address; --notify and --control need one more each"
+                "error: --workers {workers} with {addresses} addresses needs more than 62 threads: each worker has one for TCP, and one for UDP on each address; --notify, --control and --metrics need one more each"
             )?;
         }
         CommandFault::Notify(word) => {

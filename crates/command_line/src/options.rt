@@ -59,6 +59,8 @@ pub struct Serve<'a> {
     pub keys: Option<&'a str>,
     /// The path of the socket for the operator's commands, if there is one. One thread takes them.
     pub control: Option<&'a str>,
+    /// The address and port at which metrics are told, if they are. One thread tells them.
+    pub metrics: Option<SocketAddr>,
     ghost few_kept: { keep ≤ KEPT },
     ghost some_workers: { 0 < workers },
     ghost few_threads: { workers * (vec_len listen + 1) ≤ 62 },
@@ -91,6 +93,7 @@ impl<'a> Drop for Serve<'a> {
             store: _,
             keys: _,
             control: _,
+            metrics: _,
         } = self;
     }
 }
@@ -123,6 +126,9 @@ const MAX_CONNECTIONS: usize = 100_000;
 /// The option for the socket for the operator's commands.
 pub const CONTROL: &str = "control";
 
+/// The option for the address at which metrics are told.
+pub const METRICS: &str = "metrics";
+
 /// The option for the time that a connection may be idle.
 pub const IDLE: &str = "idle";
 
@@ -152,7 +158,8 @@ pub fn serve_of<'a>(
     let workers = number_for(found.get_str(WORKERS), WORKERS, 1, MAX_WORKERS, 4)?;
     let secondaries = secondaries_of(alloc, found)?;
     let control = control_of(found);
-    let threads = threads_beside(secondaries.as_slice(), control);
+    let metrics = metrics_of(found)?;
+    let threads = threads_beside(secondaries.as_slice(), control, metrics);
     if listen.len() >= threads || workers * (listen.len() + 1) > threads {
         return Err(CommandFault::Threads(workers, listen.len()));
     }
@@ -189,6 +196,7 @@ pub fn serve_of<'a>(
         store,
         keys: found.get_str(KEYS),
         control,
+        metrics,
     })
 }
 
@@ -200,14 +208,30 @@ fn control_of<'a>(found: &ArgMatches<'a>) -> Option<&'a str> {
     }
 }
 
-/// The maximum number of worker threads in total, less one if there are secondaries, for the thread that notifies them, and one if there is a socket for the
-/// operator's commands.
-fn threads_beside(secondaries: &[Secondary], control: Option<&str>) -> usize
+/// The address and port at which metrics are told, if they are.
+fn metrics_of<'a>(found: &ArgMatches<'a>) -> Result<Option<SocketAddr>, CommandFault<'a>> {
+    let Some(word) = found.get_str(METRICS) else {
+        return Ok(None);
+    };
+    match word.parse::<SocketAddr>() {
+        Ok(address) => Ok(Some(address)),
+        Err(_) => Err(CommandFault::Metrics(word)),
+    }
+}
+
+/// The maximum number of worker threads in total, less one if there are secondaries, for the thread that notifies them, one if there is a socket for the
+/// operator's commands, and one if metrics are told.
+fn threads_beside(
+    secondaries: &[Secondary],
+    control: Option<&str>,
+    metrics: Option<SocketAddr>,
+) -> usize
     ensures { result ≤ 62 }
 {
     let notifying = if secondaries.is_empty() { 0 } else { 1 };
     let controlling = if control.is_some() { 1 } else { 0 };
-    MAX_THREADS - notifying - controlling
+    let telling = if metrics.is_some() { 1 } else { 0 };
+    MAX_THREADS - notifying - controlling - telling
 }
 
 /// The addresses and ports to listen on.

@@ -4,7 +4,9 @@ use crate::command::{
     SERVER, TCP, WARN, WIDE, WINDOW, WORDS, ZONE,
 };
 use crate::may::{ALLOW, KEY, MAY};
-use crate::options::{CONNECTIONS, CONTROL, COUNT, IDLE, KEYS, LISTEN, MESSAGE, REPLY, WORKERS};
+use crate::options::{
+    CONNECTIONS, CONTROL, COUNT, IDLE, KEYS, LISTEN, MESSAGE, METRICS, REPLY, WORKERS,
+};
 use crate::secondaries::NOTIFY;
 use crate::store_options::{JOURNAL, STORE, TAKE, TRANSFER_RATE, UDP_BUFFER, UPDATE_QUEUE};
 use clap::{Arg, ArgAction, Command as Parser};
@@ -14,7 +16,7 @@ use std::alloc::{AllocError, Global};
 const PROGRAM: &str = "dnsd";
 
 /// The program's version, which `--version` prints after its name.
-const VERSION: &str = "0.1.0";
+pub const VERSION: &str = "0.1.0";
 
 /// The form of an argument. Help shows the first text as the name of its value.
 #[derive(Clone, Copy)]
@@ -366,6 +368,11 @@ const SERVE_WORDS: &[WordRow] = &[
         name: CONTROL,
         form: Form::Value("PATH"),
         help: "socket for the commands of dnsd control, which the server's user alone may use (default: none)",
+    },
+    WordRow {
+        name: METRICS,
+        form: Form::Value("ADDR:PORT"),
+        help: "address and port for Prometheus, health checks and a page, over HTTP (default: none)",
     },
     WordRow {
         name: CONNECTIONS,

@@ -1,14 +1,16 @@
 //! The operator's commands to a running server: its control socket, and the thread that reads the zone file again for a reload.
+use crate::metrics::{beside_of, started};
 use command_line::Serve;
 use commands::Source;
 use dnsd_setup::{FileReader, StartedZone, bind_control_at, prepare_reloads, remove_control};
-use serve_workers::ControlPlan;
+use server_control::ControlPlan;
 use std::alloc::AllocError;
 use std::fs::{File, Files};
 use std::io;
 use std::net::Net;
 use std::os::unix::net::UnixListener;
 use std::rt::Env;
+use std::time::Clock;
 
 /// That a socket can't be listened on; standard error has the reason.
 #[derive(Clone, Copy)]
@@ -17,7 +19,7 @@ pub struct NotBound;
 /// Binds the control socket, if there is to be one, and starts the thread that reads the zone file for reloads, by `start`. What a thread needs that takes commands.
 /// An error is lack of memory, or of a thread.
 pub fn control_for<
-    R: Files<File = File> + Env + Eprint + AllocGlobal + Net,
+    R: Files<File = File> + Env + Eprint + AllocGlobal + Net + Clock,
     S: Fn(FileReader) -> io::Result<()>,
 >(rt: &R, serve: &Serve<'_>, start: &S) -> io::Result<Result<Option<ControlPlan>, NotBound>>
     requires { (f : _) (x : _) → S.pre f x }
@@ -40,7 +42,7 @@ pub fn control_for<
 }
 
 /// What a thread needs that takes commands on a socket.
-fn plan_for<R: AllocGlobal, S: Fn(FileReader) -> io::Result<()>>(
+fn plan_for<R: AllocGlobal + Clock, S: Fn(FileReader) -> io::Result<()>>(
     rt: &R,
     serve: &Serve<'_>,
     listener: UnixListener,
@@ -56,11 +58,11 @@ fn plan_for<R: AllocGlobal, S: Fn(FileReader) -> io::Result<()>>(
             Some(slot)
         }
     };
-    let beside = if serve.secondaries.is_empty() { 1 } else { 2 };
     Ok(ControlPlan {
         listener,
         reloads,
-        beside,
+        beside: beside_of(serve),
+        started: started(rt),
         first: 0,
         store: None,
     })

@@ -10,9 +10,11 @@
 
 pub mod control;
 pub mod key_rights;
+pub mod metrics;
 pub mod secondaries;
 pub mod serve;
 pub mod thread_specs;
+pub mod warnings;
 
 use command_line::{Task, parse_words, tell_fault};
 use commands::{Command, FAILED};

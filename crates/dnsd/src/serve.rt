@@ -4,27 +4,26 @@ ghost use Rattle.transfer_core.specs.declared.kept.TheConstants.{KEPT};
 ghost use Rattle.dnsd_setup.specs.Starts.{CanStart};
 
 use crate::control::{NotBound, control_for, control_of, unbind_control};
-use crate::key_rights::{may_update, rights_for, shared_keys};
+use crate::key_rights::{rights_for, shared_keys};
+use crate::metrics::{counters_for, metrics_for, metrics_of, recent_of};
 use crate::secondaries::{SecondarySockets, secondaries_for};
 use crate::thread_specs::{places_for, thread_specs_for, work_limits_of};
-use command_line::{BAD_COMMAND, MAX_THREADS, Serve, StorePlan, is_routed};
+use crate::warnings::{listening_for, warn, warn_of_zone};
+use command_line::{BAD_COMMAND, MAX_THREADS, Serve, StorePlan};
 use commands::{DONE, FAILED};
 use dnsd_setup::{
-    BoundSockets, Entries, FileReader, Listening, Log, LogLine, ServedZone, StartedZone,
-    WorkerSockets, ZoneStore, ZoneText, bind_sockets, keys_for, read_text_for, start_entries,
-    start_store_for, tell_outside, text_for,
+    BoundSockets, CountedLog, CountedStore, Entries, FileReader, Log, LogLine, ServedZone,
+    StartedZone, WorkerSockets, ZoneStore, ZoneText, bind_sockets, keys_for, read_text_for,
+    start_entries, start_store_for, tell_outside, text_for,
 };
 use key_file::KeyFile;
-use notify::large_in;
 use requests::Allowed;
-use serve_workers::{
-    ConnectionPlan, ControlPlan, Most, Plan, ServeFault, Shutdown, ThreadSpec, UpdateConfig,
-    WorkLimit, serve_zone,
-};
+use serve_workers::{ConnectionPlan, Most, Plan, ThreadSpec, UpdateConfig, WorkLimit, serve_zone};
+use server_control::{ControlPlan, MetricsPlan, ServeFault, Shutdown};
 use std::alloc::Global;
 use std::fs::{File, Files};
 use std::marker::Brand;
-use std::net::{Net, SocketAddr, TcpListener, TcpStream};
+use std::net::{Net, TcpListener, TcpStream};
 use std::random::RandomSource;
 use std::rt::Env;
 use std::sync::Wait;
@@ -191,6 +190,8 @@ struct Bound {
     entries: Entries,
     /// What the thread needs that takes the operator's commands, if there is one.
     control: Option<ControlPlan>,
+    /// What the thread needs that tells metrics, if there is one.
+    metrics: Option<MetricsPlan>,
 }
 
 /// Binds all sockets, and starts the log's thread. None if an address cannot be listened on or a secondary cannot be notified; standard error then
@@ -224,7 +225,16 @@ fn bind<
         Ok(None) => return Ok(None),
         Err(fault) => return Err(fault),
     };
-    let entries = match start_entries(rt) {
+    let metrics = match metrics_for(rt, serve) {
+        Ok(Ok(metrics)) => metrics,
+        Ok(Err(NotBound)) => return Ok(None),
+        Err(fault) => return Err(fault),
+    };
+    let recent = match recent_of(metrics.as_ref()) {
+        Ok(recent) => recent,
+        Err(fault) => return Err(io::Error::from(fault)),
+    };
+    let entries = match start_entries(rt, recent) {
         Ok(entries) => entries,
         Err(fault) => return Err(io::Error::from(fault)),
     };
@@ -238,6 +248,7 @@ fn bind<
         secondaries,
         entries,
         control,
+        metrics,
     }))
 }
 
@@ -278,61 +289,31 @@ fn serve_on_sockets<
         secondaries,
         entries,
         control,
+        metrics,
     } = bound;
     let control = match control {
         Some(plan) => Some(control_of(plan, &begun)?),
         None => None,
     };
     let (workers, addresses, kept) = sockets.into_parts();
+    let metrics = metrics_of(metrics, &begun, addresses.as_slice())?;
     let log = Log::new(entries, listening_for(serve, &begun, addresses, kept));
     warn(rt, serve, &log);
     warn_of_zone(rt, serve, &begun, &log);
-    let served = serve_on_workers(rt, serve, begun, workers, secondaries, keys, control, &log);
+    let served = serve_on_workers(
+        rt,
+        serve,
+        begun,
+        workers,
+        secondaries,
+        keys,
+        control,
+        metrics,
+        &log,
+    );
     let status = status_of(rt, served, &log);
     log.end(rt);
     Ok(status)
-}
-
-/// What is logged once all workers have started.
-fn listening_for(
-    serve: &Serve<'_>,
-    begun: &StartedZone,
-    addresses: Vec<SocketAddr>,
-    kept: u32,
-) -> Listening {
-    let zone = begun.zone();
-    Listening {
-        addresses,
-        apex: zone.apex().copy(),
-        serial: zone.serial(),
-        records: begun.records(),
-        loses_updates: serve.store.is_none() && may_update(serve),
-        kept,
-        wanted: serve.udp_buffer,
-    }
-}
-
-/// Logs warnings of what may differ from what the operator expects.
-fn warn<R: Wait>(rt: &R, serve: &Serve<'_>, log: &Log) {
-    for address in serve.listen.iter() {
-        if address.ip().is_unspecified() {
-            log.add(rt, LogLine::Wildcard(*address));
-        }
-    }
-    if is_routed(serve.secondaries.as_slice(), serve.listen.as_slice()) {
-        log.add(rt, LogLine::Routed);
-    }
-}
-
-/// Logs warnings of a zone whose apex is the root, if no origin was given, and of one that stock secondaries would not accept.
-fn warn_of_zone<R: Wait>(rt: &R, serve: &Serve<'_>, begun: &StartedZone, log: &Log) {
-    let zone = begun.zone();
-    if zone.apex().is_root() && !serve.has_origin {
-        log.add(rt, LogLine::RootApex);
-    }
-    if let Some(large) = large_in(zone) {
-        log.add(rt, LogLine::Large(large));
-    }
 }
 
 /// The program's status once a zone is no longer served. The log gets the reason, if there is one.
@@ -366,6 +347,7 @@ fn serve_on_workers<
     secondaries: SecondarySockets,
     keys: Option<&KeyFile>,
     control: Option<ControlPlan>,
+    metrics: Option<MetricsPlan>,
     log: &Log,
 ) -> Result<(), ServeFault>
     requires { CanStart begun }
@@ -381,6 +363,7 @@ fn serve_on_workers<
         sockets,
         secondaries,
         control,
+        metrics,
         apex,
         &progresses,
         &telling,
@@ -427,6 +410,9 @@ fn serve_with_specs<
     let Ok(rights) = rights_for(alloc, keys, serve.key_rules.as_slice()) else {
         return Err(ServeFault::NoMemory);
     };
+    let Ok(counters) = counters_for(alloc, serve) else {
+        return Err(ServeFault::NoMemory);
+    };
     let shutdown = Shutdown::new(specs.len());
     let plan = Plan {
         shutdown: &shutdown,
@@ -437,6 +423,7 @@ fn serve_with_specs<
             allowed: Allowed::new(alloc, serve.rules.as_slice()),
         },
         keys: shared_keys(keys, rights.as_slice()),
+        counters: counters.as_ref(),
     };
     let texts = ThreadTextWriter::new(*rt, dir);
     let most = Most {
@@ -445,6 +432,9 @@ fn serve_with_specs<
     };
     serve_with_store(rt, alloc, most, begun, texts, specs, plan, log)
 }
+
+/// Where updates are stored and counted, with the log of a server.
+type StoreOf<'a, R, T> = CountedStore<'a, ZoneStore<'a, R, T, CountedLog<'a, Log>>, R>;
 
 /// Serves a zone with one thread for each of these specs. At most `most` updates wait, and the store's zone texts are written by `texts`.
 fn serve_with_store<
@@ -464,6 +454,7 @@ fn serve_with_store<
     requires threads { vec_len specs ≤ 62 }
     requires kept { plan.keep ≤ KEPT }
 {
+    let log = &CountedLog::new(log, plan.counters);
     let Ok(zone) = begun.prepare(rt, alloc, plan.keep, texts, log) else {
         return Err(ServeFault::NoMemory);
     };
@@ -473,8 +464,9 @@ fn serve_with_store<
         store,
         lock,
     } = zone;
+    let store = CountedStore::new(store, plan.counters, rt);
     let config = UpdateConfig { most, store };
-    let served = serve_zone::<R, Brand, Log, ZoneStore<'_, R, T, Log>>(
+    let served = serve_zone::<R, Brand, CountedLog<'_, Log>, StoreOf<'_, R, T>>(
         rt, alloc, first, later, specs, plan, config, log,
     );
     mem::drop(lock);

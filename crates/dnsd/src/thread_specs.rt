@@ -3,18 +3,20 @@ use crate::secondaries::SecondarySockets;
 use command_line::Serve;
 use dns_name::Name;
 use dnsd_setup::{Log, LogLine, WorkerSockets, descriptors};
-use serve_workers::{ControlPlan, Sockets, ThreadSpec, WorkLimit};
+use serve_workers::{Sockets, ThreadSpec, WorkLimit};
+use server_control::{ControlPlan, MetricsPlan};
 use std::alloc::Global;
 use std::fs::Files;
 use std::sync::Wait;
 
-/// What each thread serves: each worker's listeners, each of its UDP sockets, and, in one more thread each, the secondaries of the zone with this apex and
-/// the operator. None if there is not enough memory.
+/// What each thread serves: each worker's listeners, each of its UDP sockets, and, in one more thread each, the secondaries of the zone with this apex,
+/// the operator, and who asks for metrics. None if there is not enough memory.
 pub fn thread_specs_for<'a>(
     alloc: Global,
     sockets: Vec<WorkerSockets>,
     secondaries: SecondarySockets,
     control: Option<ControlPlan>,
+    metrics: Option<MetricsPlan>,
     apex: &Name,
     progresses: &'a [WorkLimit],
     telling: &'a WorkLimit,
@@ -28,6 +30,10 @@ pub fn thread_specs_for<'a>(
     if let Some(control) = control {
         let worker = specs.len().saturating_add(1);
         put(&mut specs, worker, telling, Sockets::Control(control))?;
+    }
+    if let Some(metrics) = metrics {
+        let worker = specs.len().saturating_add(1);
+        put(&mut specs, worker, telling, Sockets::Metrics(metrics))?;
     }
     Some(specs)
 }

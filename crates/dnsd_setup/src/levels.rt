@@ -8,9 +8,10 @@ use zone_server::{Event, JobEnd};
 pub(crate) fn level_of_event(event: &Event) -> Level {
     match event {
         Event::Update { .. } | Event::Reloaded { .. } => Level::Info,
-        Event::End { end, .. } | Event::Unlogged { end } | Event::ControlEnd { end } => {
-            level_of_end(end)
-        }
+        Event::End { end, .. }
+        | Event::Unlogged { end }
+        | Event::ControlEnd { end }
+        | Event::MetricsEnd { end } => level_of_end(end),
         Event::Serving | Event::Again { .. } => Level::Notice,
         Event::Lost { .. }
         | Event::Silent { .. }

@@ -4,10 +4,10 @@ use dns_name::Name;
 use dns_rdata::Serial;
 use log_lines::Level;
 use notify::Large;
+use server_control::ServeFault;
 use std::fmt::{self, Display, Formatter};
 use std::net::SocketAddr;
 use store_server::StoreEvent;
-use worker_jobs::ServeFault;
 use zone_server::Event;
 
 /// The warning for a zone whose apex is the root, if no origin was given.

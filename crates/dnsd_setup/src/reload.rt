@@ -7,13 +7,13 @@ use commands::Source;
 use dns_engine::SharedVersion;
 use dns_name::Name;
 use log_lines::Level;
+use server_control::{ReloadOrder, ReloadResult, ReloadSlot, Reloads, file_zone};
 use std::alloc::{AllocError, Global};
 use std::fs::{self, Files};
 use std::io;
 use std::rt::Env;
 use std::sync::{Arc, Wait};
 use update_messages::PrepareFault;
-use worker_jobs::{ReloadOrder, ReloadResult, ReloadSlot, Reloads, file_zone};
 use zone_tree::Zone;
 
 /// Reads the zone file again whenever a reload is ordered. It is for a thread of its own.

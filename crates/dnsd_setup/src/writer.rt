@@ -3,9 +3,10 @@ use crate::lines::LogLine;
 use crate::peer_lines::{PeerLine, PeerLines};
 use dns_name::Name;
 use dns_rdata::Serial;
-use log_lines::{Level, LogQueue, NextLine, Sink, is_in_journal};
+use log_lines::{Level, LogQueue, NextLine, RecentLines, Sink, is_in_journal};
 use sockets::ServiceManager;
 use std::alloc::{AllocError, Global};
+use std::fmt::Display;
 use std::net::Net;
 use std::rt::Env;
 use std::sync::{Arc, Mutex, Wait};
@@ -61,6 +62,8 @@ struct ErrorLines<E> {
     /// When it was last notified, on the monotonic clock.
     notified_at: Duration,
     shared: Entries,
+    /// Where the last lines are kept, if they are.
+    recent: Option<Arc<RecentLines, Global>>,
     /// Whether lines about clients wait.
     has_peers: bool,
     /// When such lines were last written, on the monotonic clock.
@@ -99,6 +102,7 @@ impl<E: Eprint + AllocGlobal + Wait + Clock> ErrorLines<E> {
     fn put_line(&mut self, line: LogLine) {
         let mark = line.level().mark(self.in_journal);
         let _ = eprintln!(self.rt; "{mark}{line}");
+        self.keep(&line);
         match &line {
             LogLine::Listening { apex, serial, .. } => self.zone = Some((apex.copy(), *serial)),
             LogLine::Event(
@@ -114,6 +118,15 @@ impl<E: Eprint + AllocGlobal + Wait + Clock> ErrorLines<E> {
                 },
             ) => self.note_serial(*after),
             _ => {}
+        }
+    }
+
+    /// Keeps a line among the last ones, if these are kept.
+    fn keep<L: Display>(&self, line: &L) {
+        if let Some(recent) = &self.recent {
+            if let Ok(text) = format!(in self.rt.alloc(); "{line}") {
+                recent.put(&self.rt, text);
+            }
         }
     }
 
@@ -150,6 +163,7 @@ impl<E: Eprint + AllocGlobal + Wait + Clock> ErrorLines<E> {
         let mark = Level::Warning.mark(self.in_journal);
         for line in lines {
             let _ = eprintln!(self.rt; "{mark}{line}");
+            self.keep(line);
         }
         if others > 0 {
             let _ = eprintln!(self.rt;
@@ -210,10 +224,10 @@ impl<E: Eprint + AllocGlobal + Wait + Clock> ErrorLines<E> {
 }
 
 /// Starts the thread that writes the log and notifies the service manager named by `NOTIFY_SOCKET`, if it is set (sd_notify(3)). An error is lack of
-/// memory, or a thread that cannot be started; then no thread runs.
+/// memory, or a thread that cannot be started; then no thread runs. The last lines are kept in `recent`, if there is that.
 pub fn start_entries<
     R: Env + Eprint + AllocGlobal + Net + Threads + Wait + Clock + Copy + Send + Drop + 'static,
->(rt: &R) -> Result<Entries, AllocError> {
+>(rt: &R, recent: Option<Arc<RecentLines, Global>>) -> Result<Entries, AllocError> {
     let alloc = rt.alloc();
     let shared = Shared {
         queue: LogQueue::new(alloc, MOST_WAITING)?,
@@ -237,6 +251,7 @@ pub fn start_entries<
             is_stale: false,
             notified_at: Duration::from_secs(0),
             shared: read,
+            recent,
             has_peers: false,
             peers_at: Duration::from_secs(0),
         };

@@ -2,13 +2,14 @@
 ghost use Rattle.std.specs.Prelude.{◌≡◌, ◌⊎◌, ◌↔◌, map, vec_len, IfOk, IfErr};
 ghost use Rattle.std.specs.List.{All};
 ghost use Rattle.std.specs.IoError.{error_kind};
-ghost use Rattle.worker_jobs.specs.declared.serve_fault.ServeFault.{ServeFault as Fault};
+ghost use Rattle.server_control.specs.declared.serve_fault.ServeFault.{ServeFault as Fault};
 ghost use Rattle.serve_workers.specs.Numbers.{number_of, takes_datagrams, are_datagrams, HasRights};
 
 use crate::service::Plan;
 use crate::thread_spec::ThreadSpec;
 use crate::threads::{SocketJob, TcpJob};
 use crate::updates::Updates;
+use server_control::ServeFault;
 use sockets::{TcpPlace, Watch};
 use std::alloc::Global;
 use std::io::{self, ErrorKind};
@@ -18,7 +19,7 @@ use std::sync::Wait;
 use std::time::Clock;
 use tcp_connections::Messages;
 use tcp_loop::EventLoop;
-use worker_jobs::{ConnectionsJob, Scratch, ServeFault, StopFlag, WakeList};
+use worker_jobs::{ConnectionsJob, Scratch, StopFlag, WakeList};
 
 /// The place at which a listener's connections come in. It is watched under its number.
 fn place_of<C: Clock>(
@@ -123,7 +124,12 @@ pub(crate) fn jobs_of<'a, R: Clock + Net + Wait>(
         let Ok(scratch) = Scratch::new(alloc) else {
             return Err(ServeFault::NoMemory);
         };
-        let job = match spec.into_job(rt, alloc, plan, updates.wake_list_at(place), scratch) {
+        let shown = match plan.counters {
+            Some(counters) => counters.thread(place),
+            None => None,
+        };
+        let wakes = updates.wake_list_at(place);
+        let job = match spec.into_job(rt, alloc, plan, wakes, shown, scratch) {
             Ok(job) => job,
             Err(fault) => return Err(fault_of(&fault)),
         };

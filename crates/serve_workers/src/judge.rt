@@ -4,13 +4,15 @@ use crate::reply_routes::ReplyRoutes;
 use crate::signed_jobs::SharedKeys;
 use crate::thread_spec::ThreadSpec;
 use crate::updates::Updates;
+use counters::ServerCounters;
 use dns_engine::{FirstZone, VersionReader};
+use server_control::Shutdown;
 use std::alloc::Global;
 use std::io;
 use std::sync::Wait;
 use std::time::Clock;
 use update_batches::{Most, UpdatePublisher, UpdateStore, UpdateThread};
-use worker_jobs::{MainTask, Shutdown};
+use worker_jobs::MainTask;
 use zone_server::{PublishRight, Server, ServerName, ServerPublisher, ServiceLog};
 
 /// How the update thread judges the updates that the other threads submit.
@@ -34,19 +36,20 @@ pub(crate) struct UpdateContext<'a, C, S: UpdateStore> {
 }
 
 impl<'a, C: Clock, S: UpdateStore> UpdateContext<'a, C, S> {
-    /// What is needed to judge the updates that the threads of these specs submit, and to sign their replies by these keys with the time of a clock. An error where a socket can't be shared, or an allocation fails.
+    /// What is needed to judge the updates that the threads of these specs submit, and to sign their replies by these keys with the time of a clock and to count them, if they are counted. An error where a socket can't be shared, or an allocation fails.
     pub(crate) fn new(
         alloc: Global,
         config: UpdateConfig<S>,
         specs: &[ThreadSpec<'_>],
         updates: &'a Updates,
         keys: Option<SharedKeys<'a>>,
+        counters: Option<&'a ServerCounters>,
         clock: &'a C,
     ) -> io::Result<UpdateContext<'a, C, S>> {
         let UpdateConfig { store, .. } = config;
         Ok(UpdateContext {
             updates,
-            routes: ReplyRoutes::new(alloc, specs, updates, keys, clock)?,
+            routes: ReplyRoutes::new(alloc, specs, updates, keys, counters, clock)?,
             store,
         })
     }

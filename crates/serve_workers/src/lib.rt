@@ -4,6 +4,7 @@
 //! begin or none does. A thread that fails ends the server. The calling thread judges the updates that the other threads submit to it, while they run ([`UpdateConfig`]).
 #![tactic(auto)]
 
+mod counted_jobs;
 mod ending;
 mod jobs;
 mod judge;
@@ -21,4 +22,4 @@ pub use signed_jobs::SharedKeys;
 pub use tcp_loop::Plan as ConnectionPlan;
 pub use thread_spec::{Sockets, ThreadSpec};
 pub use update_batches::Most;
-pub use worker_jobs::{ControlPlan, NotifySocket, Secondaries, ServeFault, Shutdown, WorkLimit};
+pub use worker_jobs::{NotifySocket, Secondaries, WorkLimit};

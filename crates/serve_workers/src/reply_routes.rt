@@ -4,6 +4,8 @@ ghost use Rattle.std.specs.Prelude.{None};
 use crate::signed_jobs::SharedKeys;
 use crate::thread_spec::{Sockets, ThreadSpec};
 use crate::updates::Updates;
+use counters::{Rcode, ServerCounters};
+use message_counts::{id_of, nanos_of, rcode_of};
 use signed_replies::{QueuedSigner, SystemClock};
 use std::alloc::Global;
 use std::io;
@@ -31,6 +33,9 @@ pub(crate) struct ReplyRoutes<'a, C> {
     paths: Vec<Path<'a>>,
     /// Signs the replies to updates that were signed, where there are keys.
     signer: Option<QueuedSigner<'a, SystemClock<'a, C>>>,
+    /// Where the replies by datagram are counted, if they are.
+    counters: Option<&'a ServerCounters>,
+    clock: &'a C,
 }
 
 /// What signs the replies by these keys, if there are any. An error where an allocation fails.
@@ -54,17 +59,19 @@ fn path_to<'a>(spec: &ThreadSpec<'_>, updates: &'a Updates, place: usize) -> io:
             None => Ok(Path::Nowhere),
         },
         // The thread that takes commands looks for the result of its update itself.
-        Sockets::Secondaries(_) | Sockets::Control(_) => Ok(Path::Nowhere),
+        Sockets::Secondaries(_) | Sockets::Control(_) | Sockets::Metrics(_) => Ok(Path::Nowhere),
     }
 }
 
 impl<'a, C: Clock> ReplyRoutes<'a, C> {
-    /// Makes the routes to the threads of these specs, which submit their updates to `updates`. Replies are signed by these keys, if there are any, with the time of a clock. An error where a socket can't be shared, or an allocation fails.
+    /// Makes the routes to the threads of these specs, which submit their updates to `updates`. Replies are signed by these keys, if there are any, with the time of a clock, and
+    /// are counted here, if they are. An error where a socket can't be shared, or an allocation fails.
     pub(crate) fn new(
         alloc: Global,
         specs: &[ThreadSpec<'_>],
         updates: &'a Updates,
         keys: Option<SharedKeys<'a>>,
+        counters: Option<&'a ServerCounters>,
         clock: &'a C,
     ) -> io::Result<ReplyRoutes<'a, C>> {
         let mut paths = Vec::new(alloc);
@@ -75,7 +82,30 @@ impl<'a, C: Clock> ReplyRoutes<'a, C> {
             place = place.saturating_add(1);
         }
         let signer = signer_of(alloc, keys, clock)?;
-        Ok(ReplyRoutes { paths, signer })
+        Ok(ReplyRoutes {
+            paths,
+            signer,
+            counters,
+            clock,
+        })
+    }
+}
+
+/// Counts a reply to an update, which is sent as so many octets by the thread at a place, and how long the update took.
+fn count<C: Clock>(
+    counters: Option<&ServerCounters>,
+    clock: &C,
+    (worker, to): (usize, SocketAddr),
+    reply: &[u8],
+    octets: usize,
+) {
+    let Some(counters) = counters else {
+        return;
+    };
+    let rcode = Rcode::of(rcode_of(reply));
+    counters.updates().stream_update(rcode, octets as u64);
+    if let Some(thread) = counters.thread(worker) {
+        thread.end_update(to, id_of(reply), nanos_of(clock));
     }
 }
 
@@ -93,11 +123,25 @@ impl<C: Clock> ReplySender for ReplyRoutes<'_, C> {
             return;
         };
         let Some(tsig) = tsig else {
+            count(
+                self.counters,
+                self.clock,
+                (worker, to),
+                octets,
+                octets.len(),
+            );
             let _ = is_sent(socket, octets, to);
             return;
         };
         if let Some(signer) = &mut self.signer {
             if let Some(signed) = signer.sign(tsig, octets) {
+                count(
+                    self.counters,
+                    self.clock,
+                    (worker, to),
+                    octets,
+                    signed.len(),
+                );
                 let _ = is_sent(socket, signed, to);
             }
         }

@@ -8,12 +8,13 @@ ghost use Rattle.serve_workers.specs.Readers.{seen_by};
 use crate::threads::SocketJob;
 use crate::updates::Updates;
 use dns_engine::{FirstZone, VersionReader};
+use server_control::Shutdown;
 use std::alloc::Global;
 use std::mem;
 use std::sync::Wait;
 use std::thread::Threads;
 use std::time::Clock;
-use worker_jobs::{MainTask, Shutdown, Task, run_tasks};
+use worker_jobs::{MainTask, Task, run_tasks};
 use zone_server::{Event, JobEnd, Server, ServerName, ServiceLog, UpdateSender};
 
 /// A thread of a server.

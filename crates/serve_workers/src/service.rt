@@ -15,10 +15,12 @@ use crate::signed_jobs::SharedKeys;
 use crate::thread_spec::ThreadSpec;
 use crate::threads::SocketJob;
 use crate::updates::Updates;
+use counters::ServerCounters;
 use dns_engine::{
     EngineFault, FirstZone, NoEngine, SharedVersion, VersionCell, VersionPublisher, VersionReader,
     ZoneVersions,
 };
+use server_control::{ServeFault, Shutdown};
 use snapshot_cell::{
     Cell, NamedCell, NamedPublisher, NamedReader, Naming, NewFault, Parts, Reader,
 };
@@ -30,7 +32,7 @@ use std::thread::Threads;
 use std::time::Clock;
 use tcp_loop::Plan as ConnectionPlan;
 use update_batches::{Most, UpdateStore};
-use worker_jobs::{MainTask, ServeFault, Shutdown};
+use worker_jobs::MainTask;
 use zone_server::{JobEnd, PublishRight, Server, ServerLedgers, ServerName, ServiceLog};
 
 /// How a zone is served.
@@ -46,6 +48,8 @@ pub struct Plan<'a> {
     pub connections: ConnectionPlan<'a>,
     /// The keys by which requests are verified. None where signatures aren't checked.
     pub keys: Option<SharedKeys<'a>>,
+    /// Where the threads show what they count. None where nothing is counted.
+    pub counters: Option<&'a ServerCounters>,
 }
 
 impl<C: Clock> SocketJob<'_, C> {
@@ -58,8 +62,13 @@ impl<C: Clock> SocketJob<'_, C> {
             SocketJob::Connections(job) => job.end(),
             SocketJob::SignedDatagrams(signed) => signed.job.end(),
             SocketJob::SignedConnections(signed) => signed.job.end(),
+            SocketJob::CountedDatagrams(job) => job.end(),
+            SocketJob::CountedConnections(counted) => counted.job.end(),
+            SocketJob::CountedSignedDatagrams(signed) => signed.job.end(),
+            SocketJob::CountedSignedConnections(signed) => signed.job.job.end(),
             SocketJob::Secondaries(job) => job.end(),
             SocketJob::Control(job) => job.end(),
+            SocketJob::Metrics(job) => job.end(),
         };
         match end {
             Some(JobEnd::Device) => Some(ServeFault::Device),
@@ -91,10 +100,11 @@ fn context_for<'a, C: Clock, S: UpdateStore>(
     config: UpdateConfig<S>,
     specs: &[ThreadSpec<'_>],
     updates: &'a Updates,
-    keys: Option<SharedKeys<'a>>,
+    plan: Plan<'a>,
     clock: &'a C,
 ) -> Result<UpdateContext<'a, C, S>, ServeFault> {
-    match UpdateContext::new(alloc, config, specs, updates, keys, clock) {
+    let (keys, counters) = (plan.keys, plan.counters);
+    match UpdateContext::new(alloc, config, specs, updates, keys, counters, clock) {
         Ok(context) => Ok(context),
         Err(fault) => Err(fault_of(&fault)),
     }
@@ -154,7 +164,7 @@ fn serve_specs<
     requires kept { plan.keep ≤ KEPT }
 {
     let threads = specs.len();
-    let context = match context_for(alloc, config, &specs, updates, plan.keys, rt) {
+    let context = match context_for(alloc, config, &specs, updates, plan, rt) {
         Ok(context) => context,
         Err(fault) => return Err(fault),
     };
@@ -368,6 +378,8 @@ fn serve_with_updates<
 /// Serves the versions of a server's cell, by jobs with `readers`, while `judge` judges the updates that they submit to `updates`. All readers come back in `readers`, which
 /// has room for one more. Fails as [`serve_on_threads`] does.
 fn serve_with_judge<
+    'g,
+    's,
     R: Threads + Wait + Clock + Sync,
     Z: FirstZone + Send + Sync,
     N: ServerName + Send + Sync,
@@ -376,13 +388,13 @@ fn serve_with_judge<
 >(
     rt: &R,
     alloc: Global,
-    server: &Server<'_, Z, N>,
-    shutdown: &Shutdown,
-    updates: &Updates,
+    server: &'g Server<'s, Z, N>,
+    shutdown: &'g Shutdown,
+    updates: &'g Updates,
     judge: Judge<'_, '_, RoutedPublisher<'_, '_, Z, N, L, R>, S>,
     readers: &mut Vec<VersionReader<N>>,
-    jobs: Vec<SocketJob<'_, R>>,
-    log: &L,
+    jobs: Vec<SocketJob<'g, R>>,
+    log: &'g L,
 ) -> Result<(), ServeFault>
     requires count { vec_len readers.old ≡ vec_len jobs }
     requires room { vec_len readers.old < vec_capacity readers.old }

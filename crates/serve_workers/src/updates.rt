@@ -24,6 +24,7 @@ fn most_of(spec: &ThreadSpec<'_>, places: usize) -> usize {
         Sockets::Datagrams(_) => 0,
         Sockets::Secondaries(_) => 0,
         Sockets::Control(_) => 0,
+        Sockets::Metrics(_) => 0,
     }
 }
 
@@ -34,6 +35,7 @@ fn takes_updates(spec: &ThreadSpec<'_>) -> bool {
         Sockets::Datagrams(_) => true,
         Sockets::Control(_) => true,
         Sockets::Secondaries(_) => false,
+        Sockets::Metrics(_) => false,
     }
 }
 

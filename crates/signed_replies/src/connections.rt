@@ -21,7 +21,7 @@ use crate::plain_room::PlainRoom;
 use crate::refusal::tell_fault;
 use crate::signing::{stamp_at, stamp_late, stamp_short, write_signed};
 use arrayvec::ArrayVec;
-use dns_message::{HEADER, MAX_LIMIT};
+use dns_message::{HEADER, MAX_LIMIT, is_update};
 use dns_rdata::Rcode;
 use hmac::MAX_MAC;
 use requests::StreamEnd;
@@ -276,26 +276,28 @@ impl<
                 out,
             ))),
             Verification::BadKey(tsig) => {
+                let (from, update) = (self.from, is_update(request));
                 self.log
-                    .tell_fault(rt, self.from, tsig.owner(), TsigFault::BadKey);
+                    .tell_fault(rt, from, tsig.owner(), TsigFault::BadKey, update);
                 let error = TsigError::BadKey;
                 Ok(Reply::One(write_unsigned(request, &tsig, error, transport, out)))
             }
             Verification::BadSig(tsig) => {
+                let (from, update) = (self.from, is_update(request));
                 self.log
-                    .tell_fault(rt, self.from, tsig.owner(), TsigFault::BadSig);
+                    .tell_fault(rt, from, tsig.owner(), TsigFault::BadSig, update);
                 let error = TsigError::BadSig;
                 Ok(Reply::One(write_unsigned(request, &tsig, error, transport, out)))
             }
             Verification::BadTime(tsig) => {
                 let key = self.ring.keys().get(tsig.key);
-                tell_fault(rt, &self.log, self.from, key, TsigFault::BadTime);
+                tell_fault(rt, &self.log, self.from, key, TsigFault::BadTime, request);
                 let stamp = stamp_late(&tsig, now);
                 Ok(one(write_signed(request, key, tsig, &stamp, transport, out)))
             }
             Verification::BadTrunc(tsig) => {
                 let key = self.ring.keys().get(tsig.key);
-                tell_fault(rt, &self.log, self.from, key, TsigFault::BadTrunc);
+                tell_fault(rt, &self.log, self.from, key, TsigFault::BadTrunc, request);
                 Ok(one(write_signed(request, key, tsig, &stamp_short(now), transport, out)))
             }
             Verification::Signed(tsig) => self.reply_signed(rt, now, tsig, request, out),

@@ -18,7 +18,7 @@ use crate::limit::reply_limit;
 use crate::plain_room::PlainRoom;
 use crate::refusal::tell_fault;
 use crate::signing::{sign_reply, stamp_at, stamp_late, stamp_short, write_signed};
-use dns_message::{HEADER, Head, MAX_LIMIT};
+use dns_message::{HEADER, Head, MAX_LIMIT, is_update};
 use dns_rdata::Rcode;
 use requests::Handler;
 use serve_core::{Peer, Transport};
@@ -204,26 +204,28 @@ impl<'r, 'k, K: KeyRing, A: SignsLater + Drop, C: UnixClock, O: TsigLog + Drop> 
                 out,
             ))),
             Verification::BadKey(tsig) => {
+                let (from, update) = (self.from, is_update(request));
                 self.log
-                    .tell_fault(rt, self.from, tsig.owner(), TsigFault::BadKey);
+                    .tell_fault(rt, from, tsig.owner(), TsigFault::BadKey, update);
                 let error = TsigError::BadKey;
                 Ok(Some(write_unsigned(request, &tsig, error, Transport::Udp, out)))
             }
             Verification::BadSig(tsig) => {
+                let (from, update) = (self.from, is_update(request));
                 self.log
-                    .tell_fault(rt, self.from, tsig.owner(), TsigFault::BadSig);
+                    .tell_fault(rt, from, tsig.owner(), TsigFault::BadSig, update);
                 let error = TsigError::BadSig;
                 Ok(Some(write_unsigned(request, &tsig, error, Transport::Udp, out)))
             }
             Verification::BadTime(tsig) => {
                 let key = self.ring.keys().get(tsig.key);
-                tell_fault(rt, &self.log, self.from, key, TsigFault::BadTime);
+                tell_fault(rt, &self.log, self.from, key, TsigFault::BadTime, request);
                 let stamp = stamp_late(&tsig, now);
                 Ok(write_signed(request, key, tsig, &stamp, Transport::Udp, out))
             }
             Verification::BadTrunc(tsig) => {
                 let key = self.ring.keys().get(tsig.key);
-                tell_fault(rt, &self.log, self.from, key, TsigFault::BadTrunc);
+                tell_fault(rt, &self.log, self.from, key, TsigFault::BadTrunc, request);
                 Ok(write_signed(request, key, tsig, &stamp_short(now), Transport::Udp, out))
             }
             Verification::Signed(tsig) => self.answer_signed(rt, now, tsig, request, out),

@@ -1,4 +1,5 @@
 //! What is logged of signed requests that are refused.
+use dns_message::is_update;
 use std::net::SocketAddr;
 use std::sync::Wait;
 use tsig::Key;
@@ -11,8 +12,9 @@ pub(crate) fn tell_fault<R: Wait, O: TsigLog>(
     from: SocketAddr,
     key: Option<&Key>,
     fault: TsigFault,
+    request: &[u8],
 ) {
     if let Some(key) = key {
-        log.tell_fault(rt, from, key.name(), fault);
+        log.tell_fault(rt, from, key.name(), fault, is_update(request));
     }
 }

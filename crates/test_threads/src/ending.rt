@@ -7,9 +7,9 @@ use memory_devices::zone;
 use requests::Allowed;
 use rights::parse_rule;
 use serve_workers::{
-    ConnectionPlan, Most, Plan, ServeFault, Shutdown, Sockets, ThreadSpec, UpdateConfig, WorkLimit,
-    serve_zone,
+    ConnectionPlan, Most, Plan, Sockets, ThreadSpec, UpdateConfig, WorkLimit, serve_zone,
 };
+use server_control::{ServeFault, Shutdown};
 use sockets::{Turn, bind_datagrams, bind_listener};
 use std::alloc::Global;
 use std::io;
@@ -155,6 +155,7 @@ pub(crate) fn served<R: Net + Threads + Wait + Clock + Sync>(
             allowed: Allowed::new(alloc, &rules),
         },
         keys: None,
+        counters: None,
     };
     let zone = zone(alloc)?;
     let version = Version::first(zone);

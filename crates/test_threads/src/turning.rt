@@ -2,9 +2,11 @@
 //! gets a request that is answered later.
 ghost use Rattle.std.specs.Prelude.{None, ⊤, [], ◌-◌, ◌^◌};
 
+use counted_requests::Resting;
 use memory_devices::{Kept, asker};
 use requests::{Allowed, StreamEnd};
 use serve_core::{Peer, Transport};
+use server_control::Shutdown;
 use std::alloc::Global;
 use std::io;
 use std::net::SocketAddr;
@@ -12,8 +14,8 @@ use std::sync::Wait;
 use std::sync::atomic::{AtomicU64, Ordering};
 use std::time::{Clock, Duration};
 use tcp_connections::{Blocking, Fault, Handler, Limits, Reply};
-use tcp_loop::{Arrivals, EventLoop, NotWatched, Plan, Readiness, Refusal, Remote};
-use worker_jobs::{ConnectionsJob, Scratch, Shutdown, StopFlag, WakeList, WorkLimit};
+use tcp_loop::{Arrivals, EventLoop, NotWatched, Plan, Readiness, Refusal, Remote, Tally};
+use worker_jobs::{ConnectionsJob, Scratch, StopFlag, WakeList, WorkLimit};
 use zone_replies::Transfer;
 use zone_server::JobEnd;
 
@@ -151,6 +153,10 @@ struct Putting<'a> {
     asked: u32,
     wake_list: &'a WakeList,
     tells: bool,
+}
+
+impl Resting<Transfer> for Putting<'_> {
+    fn rest(&mut self, _tally: Tally) {}
 }
 
 impl Handler<Transfer> for Putting<'_> {

@@ -36,7 +36,14 @@ impl UnixClock for Still {
 struct NoLog;
 
 impl TsigLog for NoLog {
-    fn tell_fault<R: Wait>(&self, _rt: &R, _from: SocketAddr, _key: &Name, _fault: TsigFault) {}
+    fn tell_fault<R: Wait>(
+        &self,
+        _rt: &R,
+        _from: SocketAddr,
+        _key: &Name,
+        _fault: TsigFault,
+        _is_update: bool,
+    ) {}
 }
 
 /// A handler that has a reply to one request, if an update one of who may, and none to any other.

@@ -11,6 +11,7 @@ use Rattle.std.proofs.option.Option.TheSendSync as option
 use Rattle.std.proofs.sync.Mutex.TheSendSync as mutex
 use Rattle.snapshot_cell.proofs.SendLemmas as cell
 use Rattle.snapshot_cell.specs.declared.named.Naming as naming
+use Rattle.counters.proofs.SendLemmas as shown
 use Rattle.dns_engine.proofs.SendLemmas as engine
 use Rattle.dns_engine.specs.declared.versions.FirstZone.{Ghosts}
 use Rattle.dns_message.specs.contracts.query.Query as query
@@ -31,9 +32,6 @@ use Rattle.zone_server.specs.contracts.datagram_handler.DatagramHandler as asked
 use Rattle.zone_replies.proofs.SendLemmas.{allowed_send}
 use Rattle.zone_replies.specs.contracts.transfer.Transfer as transfer
 use Rattle.worker_jobs.specs.contracts.connections_job.ConnectionsJob as connections
-use Rattle.worker_jobs.specs.contracts.control_job.ControlJob as control
-use Rattle.worker_jobs.specs.contracts.reload_slot.Progress as progress
-use Rattle.worker_jobs.specs.contracts.reload_slot.ReloadSlot as slot
 use Rattle.worker_jobs.specs.contracts.waking_poll.WakingPoll as waking
 use Rattle.worker_jobs.specs.contracts.notify_job.NotifyJob as telling
 use Rattle.worker_jobs.specs.contracts.notify_socket.NotifySocket as told
@@ -104,19 +102,7 @@ told_send : IsSend (told.the_field).row
 told_send = search (array_vec.the_send, option.the_field_send, option.the_send, crossing.crosses, sendable) depth 60 fits 20000
 
 pub telling_send : (a : NamedLft) (C : RattleType) → IsSync C → IsSend (telling.the_field a C).row
-telling_send a C ticks = search (told_send, keys_sync, option.the_field_send, option.the_send, global.the_field_send, crossing.crosses, sendable) depth 60 fits 20000
-
-progress_send : IsSend progress.the_row
-progress_send = search (engine.shared_send, engine.shared_sync, array_vec.the_send, option.the_field_send, option.the_send, global.the_field_send, crossing.crosses, sendable) depth 60 fits 20000
-
-slot_send : IsSend slot.the_row
-slot_send = search (mutex.the_send, progress_send, crossing.crosses, sendable) depth 60 fits 20000
-
-slot_sync : IsSync slot.the_row
-slot_sync = recorded_sync (slot.the_field).row _ _ (slot.the_type).to_one (struct_sync (shape (slot.the_type)) (mutex.the_sync _ progress_send, (search (crossing.crosses, sendable) depth 60 fits 20000, tt)))
-
-pub control_send : (a : NamedLft) (C : RattleType) → IsSync C → IsSend (control.the_field a C).row
-control_send a C ticks = search (slot_send, slot_sync, option.the_field_send, option.the_send, global.the_field_send, crossing.crosses, sendable) depth 60 fits 20000
+telling_send a C ticks = search (told_send, keys_sync, shown.server_sync, option.the_field_send, option.the_send, global.the_field_send, crossing.crosses, sendable) depth 60 fits 20000
 
 pub datagram_handler_send : (a b : NamedLft) (T N L : RattleType) (g : Ghosts T.Denot) (n : naming.Ghosts N.Denot) (s : server_names.Ghosts N.Denot) → IsSync L → IsSend (asked.the_field a b T N L n g s).row
 datagram_handler_send a b T N L g n s hears =

@@ -18,3 +18,8 @@ module _ {S M T : Type 0} (origin : S → SocketAddr) (octets : S → Option (Li
   pub one_turned : (now : ℕ) (seen later : ℕ → Learned T) (old : Slab (Connection S M)) (mid new : EventLoop S M) → HasTurned origin octets IsReply limits now seen old later mid.connections → new ≡ mid → Turned origin octets IsReply limits seen old later new.connections
   one_turned now seen later old mid new has same =
       subst (λ (event_loop : EventLoop S M). Turned origin octets IsReply limits seen old later event_loop.connections) (sym same) (turned now unturned has)
+
+  -- the same, where what is known hasn't changed before it
+  pub rested_turned : (now : ℕ) (seen rested later : ℕ → Learned T) (old : Slab (Connection S M)) (mid new : EventLoop S M) → rested ≡ seen → HasTurned origin octets IsReply limits now rested old later mid.connections → new ≡ mid → Turned origin octets IsReply limits seen old later new.connections
+  rested_turned now seen rested later old mid new rests has same =
+      subst (λ (from : ℕ → Learned T). Turned origin octets IsReply limits from old later new.connections) rests (one_turned now rested later old mid new has same)

@@ -3,4 +3,3 @@ pub mod Ended
 pub mod Lost
 pub mod SignedNotify
 pub mod WokenKeys
-pub mod FileZone

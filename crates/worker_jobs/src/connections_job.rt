@@ -11,12 +11,13 @@ use crate::progress::StopFlag;
 use crate::scratch::Scratch;
 use crate::wake_list::WakeList;
 use crate::waking_poll::WakingPoll;
+use counted_requests::Resting;
 use crossbeam_utils::CachePadded;
 use requests::Allowed;
 use std::alloc::Global;
 use std::sync::Wait;
 use std::time::{Clock, Duration};
-use tcp_connections::{Blocking, Handler, Messages};
+use tcp_connections::{Blocking, Messages};
 use tcp_loop::{Arrivals, EventLoop, Plan, Readiness, Remote, Tally, TurnEnd};
 use zone_server::{Event, JobEnd, Losses, ServiceLog};
 
@@ -222,7 +223,7 @@ impl<
 
     /// Takes a turn of the event loop, unless the worker is to end. Gives an end where the worker is to end, or where no more turns can be taken.
     #[tactic(auto, using(tcp_connections::proofs::AskedLemmas::each_itself))]
-    fn turn<R: Wait, A: Handler<M>, O: ServiceLog>(
+    fn turn<R: Wait, A: Resting<M>, O: ServiceLog>(
         &mut self,
         rt: &R,
         handler: &mut A,
@@ -237,6 +238,7 @@ impl<
             return Some(JobEnd::Done(self.stop.progress.done()));
         }
         self.poll.take_woken(rt);
+        handler.rest(self.event_loop.tally());
         let Scratch { request, reply } = &mut *self.scratch;
         let taken = self.event_loop.poll_once(
             rt,
@@ -258,7 +260,7 @@ impl<
 
     /// Serves connections in turns until the worker is to end, or no more turns can be taken. Each turn accepts connections, answers each as the
     /// peer of its own address, on its own stream, and ends those whose peers take too long (RFC 7766, 6.2).
-    pub fn serve<R: Wait, A: Handler<M>, O: ServiceLog>(
+    pub fn serve<R: Wait, A: Resting<M>, O: ServiceLog>(
         &mut self,
         rt: &R,
         handler: &mut A,

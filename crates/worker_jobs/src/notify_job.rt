@@ -3,11 +3,12 @@ ghost use Rattle.std.specs.Prelude.{◌≡◌, ◌≤◌, length, Some, IfOk};
 ghost use Rattle.requests.specs.Served.{Grows};
 
 use crate::notify_socket::{MAX_SIGNED, MOST_REPLIES, NotifySocket};
-use crate::progress::Shutdown;
+use counters::{SecondaryCounters, ServerCounters};
 use dns_name::Name;
 use notify::{Due, Heard, MAX_NOTIFY, Notifier};
 use rand_chacha::ChaCha20Rng;
 use rand_core::{Rng, SeedableRng};
+use server_control::Shutdown;
 use signed_replies::{SystemClock, UnixClock};
 use std::alloc::{AllocError, Global};
 use std::net::SocketAddr;
@@ -22,6 +23,9 @@ const LONGEST_LOOK: u64 = 100;
 
 /// The most turns that it takes before it waits. No more are due at one time (own).
 const MOST_TURNS: usize = 256;
+
+/// How many octets the numbers of an SOA have (RFC 1035, 3.3.13).
+const NUMBERS: usize = 20;
 
 /// The number of 16-bit IDs (RFC 1035, 4.1.1).
 const IDS: u32 = 65_536;
@@ -70,6 +74,8 @@ pub struct NotifyJob<'a, C> {
     shutdown: &'a Shutdown,
     /// The server's keys, if it has any.
     keys: Option<&'a Keys>,
+    /// Where NOTIFYs are counted, if they are.
+    counters: Option<&'a ServerCounters>,
     sent: u64,
     end: Option<JobEnd>,
 }
@@ -85,6 +91,7 @@ impl<'a, C> Drop for NotifyJob<'a, C> {
             clock: _,
             shutdown: _,
             keys: _,
+            counters: _,
             sent: _,
             end: _,
         } = self;
@@ -92,7 +99,7 @@ impl<'a, C> Drop for NotifyJob<'a, C> {
 }
 
 impl<'a, C: Clock> NotifyJob<'a, C> {
-    /// The job of the worker with this number: notifies secondaries until the other threads have ended, by these keys, if the server has any. `AllocError` where there is no memory.
+    /// The job of the worker with this number: notifies secondaries until the other threads have ended, by these keys, if the server has any, and counts that here, if it is counted. `AllocError` where there is no memory.
     pub fn new(
         alloc: Global,
         number: usize,
@@ -100,6 +107,7 @@ impl<'a, C: Clock> NotifyJob<'a, C> {
         clock: &'a C,
         shutdown: &'a Shutdown,
         keys: Option<&'a Keys>,
+        counters: Option<&'a ServerCounters>,
     ) -> Result<NotifyJob<'a, C>, AllocError>
         ensures { IfOk result (λ job. job.number ≡ number) }
     {
@@ -117,6 +125,7 @@ impl<'a, C: Clock> NotifyJob<'a, C> {
             clock,
             shutdown,
             keys,
+            counters,
             sent: 0,
             end: None,
         })
@@ -149,9 +158,11 @@ impl<'a, C: Clock> NotifyJob<'a, C> {
             match next {
                 NextTurn::Look(wait) => return Ok(wait),
                 NextTurn::Due(Due::Silent(secondary)) => {
+                    count_silent(self.counters, secondary);
                     log.tell(rt, Event::Silent { secondary });
                 }
                 NextTurn::Due(Due::Send { to, len }) => {
+                    count_sent(self.counters, to, &out[..len]);
                     self.send(to, &out[..len]);
                     self.sent = self.sent.saturating_add(1);
                 }
@@ -193,6 +204,7 @@ impl<'a, C: Clock> NotifyJob<'a, C> {
             SystemClock::new(self.clock).now(),
             &mut self.notifier,
             &self.apex,
+            self.counters,
             log,
         );
         if is_over {
@@ -248,10 +260,47 @@ fn take_replies<R: Wait, L: ServiceLog>(
     now: u64,
     notifier: &mut Notifier,
     apex: &Name,
+    counters: Option<&ServerCounters>,
     log: &L,
 ) {
     for socket in sockets {
-        take_from(rt, socket, keys, now, notifier, apex, log);
+        take_from(rt, socket, keys, now, notifier, apex, counters, log);
+    }
+}
+
+/// What is counted of the secondary at an address, if it is.
+fn counted_of(
+    counters: Option<&ServerCounters>,
+    secondary: SocketAddr,
+) -> Option<&SecondaryCounters> {
+    match counters {
+        Some(counters) => counters.secondary(secondary),
+        None => None,
+    }
+}
+
+/// Counts that a secondary is given up, if that is counted.
+fn count_silent(counters: Option<&ServerCounters>, secondary: SocketAddr) {
+    if let Some(counted) = counted_of(counters, secondary) {
+        counted.give_up();
+    }
+}
+
+/// Counts a NOTIFY that is sent to a secondary, if that is counted.
+fn count_sent(counters: Option<&ServerCounters>, to: SocketAddr, octets: &[u8]) {
+    if let Some(counted) = counted_of(counters, to) {
+        counted.send(serial_in(octets));
+    }
+}
+
+/// The serial in a NOTIFY, whose SOA ends it: of its last five numbers the first one (RFC 1035, 3.3.13; RFC 1996, 3.7). 0 where there is none.
+fn serial_in(octets: &[u8]) -> u32 {
+    let Some(at) = octets.len().checked_sub(NUMBERS) else {
+        return 0;
+    };
+    match &octets[at..] {
+        [a, b, c, d, ..] => u32::from_be_bytes([*a, *b, *c, *d]),
+        _ => 0,
     }
 }
 
@@ -263,6 +312,7 @@ fn take_from<R: Wait, L: ServiceLog>(
     now: u64,
     notifier: &mut Notifier,
     apex: &Name,
+    counters: Option<&ServerCounters>,
     log: &L,
 ) {
     let mut octets = [0u8; MAX_SIGNED];
@@ -275,7 +325,13 @@ fn take_from<R: Wait, L: ServiceLog>(
         let Some(len) = socket.plain(keys, now, &octets[..len], &mut out) else {
             continue;
         };
-        if notifier.receive(apex, secondary, &out[..len]) == Some(Heard::Again) {
+        let Some(heard) = notifier.receive(apex, secondary, &out[..len]) else {
+            continue;
+        };
+        if let Some(counted) = counted_of(counters, secondary) {
+            counted.answer();
+        }
+        if heard == Heard::Again {
             log.tell(rt, Event::Again { secondary });
         }
     }

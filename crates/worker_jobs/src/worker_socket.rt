@@ -10,6 +10,7 @@ ghost use Rattle.requests.specs.Datagrams.{count_of};
 use crate::held_replies::{HeldReplies, MOST};
 use crate::interrupted::is_interrupted;
 use crate::progress::StopFlag;
+use message_counts::DatagramCounts;
 use requests::Datagrams;
 use std::alloc::Global;
 use std::io::{self, ErrorKind};
@@ -71,32 +72,40 @@ enum Mode {
 }
 
 /// A worker's UDP socket, with the count of its failures.
-pub struct WorkerSocket<'a> {
+pub struct WorkerSocket<'a, T> {
     socket: UdpSocket,
     stop: StopFlag<'a>,
     mode: Mode,
     held: HeldReplies,
+    /// Counts what is received and sent.
+    counts: T,
     /// How many replies failed to be sent, and aren't counted yet.
     lost: u64,
     faults: u64,
 }
 
-impl<'a> Drop for WorkerSocket<'a> {
+impl<'a, T: Drop> Drop for WorkerSocket<'a, T> {
     fn drop(self) {
         let WorkerSocket {
             socket: _,
             stop: _,
             mode: _,
             held: _,
+            counts: _,
             lost: _,
             faults: _,
         } = self;
     }
 }
 
-impl<'a> WorkerSocket<'a> {
-    /// The socket of a worker thread, which waits for datagrams from now on. No failure is counted yet.
-    pub fn new(alloc: Global, socket: UdpSocket, stop: StopFlag<'a>) -> io::Result<WorkerSocket<'a>>
+impl<'a, T: DatagramCounts> WorkerSocket<'a, T> {
+    /// The socket of a worker thread, which waits for datagrams from now on, and counts them so. No failure is counted yet.
+    pub fn new(
+        alloc: Global,
+        socket: UdpSocket,
+        stop: StopFlag<'a>,
+        counts: T,
+    ) -> io::Result<WorkerSocket<'a, T>>
         ensures { IfOk result (λ socket. socket.faults ≡ 0) }
     {
         socket.set_nonblocking(false)?;
@@ -106,6 +115,7 @@ impl<'a> WorkerSocket<'a> {
             stop,
             mode: Mode::Waiting(0),
             held: HeldReplies::new(alloc)?,
+            counts,
             lost: 0,
             faults: 0,
         })
@@ -169,6 +179,15 @@ impl<'a> WorkerSocket<'a> {
         Ok(())
     }
 
+    /// Has the counts rest where the next receive waits.
+    fn rest(&mut self)
+        ensures { self.new.faults ≡ self.old.faults }
+    {
+        if let Mode::Waiting(_) = self.mode {
+            self.counts.rest();
+        }
+    }
+
     /// Receives a datagram at the front of a buffer, and gives how many octets it has there and its sender's address. None where the socket has
     /// failed, or the thread is to end.
     fn next(&mut self, buf: &mut [u8]) -> Option<(usize, SocketAddr)>
@@ -180,6 +199,7 @@ impl<'a> WorkerSocket<'a> {
                 return None;
             }
             self.prepare().ok()?;
+            self.rest();
             match self.socket.recv_from(buf) {
                 Ok(received) => {
                     self.note(received.0);
@@ -193,7 +213,7 @@ impl<'a> WorkerSocket<'a> {
     }
 }
 
-impl Datagrams for WorkerSocket<'_> {
+impl<T: DatagramCounts> Datagrams for WorkerSocket<'_, T> {
     ghost datagrams = { λ _. None };
 
     ghost failed = { λ socket. socket.faults };
@@ -203,6 +223,8 @@ impl Datagrams for WorkerSocket<'_> {
         match self.next(buf) {
             Some(received) => {
                 self.stop.progress.add(1);
+                let (len, from) = received;
+                self.counts.received(&buf[..len], from);
                 Some(received)
             }
             None => {
@@ -214,6 +236,7 @@ impl Datagrams for WorkerSocket<'_> {
 
     // The failure of a reply that was held back is counted by a later call.
     fn send(&mut self, octets: &[u8], to: SocketAddr) {
+        self.counts.sent(octets, to);
         let is_held = match self.mode {
             Mode::Taking(_) => self.held.hold(octets, to),
             Mode::Waiting(_) => false,

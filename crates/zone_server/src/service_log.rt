@@ -66,6 +66,8 @@ pub enum Event {
         key: Name,
         /// The reason why.
         fault: TsigFault,
+        /// Whether the request is an update.
+        is_update: bool,
     },
     /// An update has added records to an owner that then has more than stock secondaries take.
     Large(Large),
@@ -99,6 +101,11 @@ pub enum Event {
     },
     /// The thread that takes the operator's commands has ended.
     ControlEnd {
+        /// The reason why it ended.
+        end: JobEnd,
+    },
+    /// The thread that tells metrics has ended.
+    MetricsEnd {
         /// The reason why it ended.
         end: JobEnd,
     },
@@ -216,7 +223,12 @@ impl Display for Event {
                     "{wanted} from {from}: signed with key {key}, but no keys are configured; signature not checked"
                 )
             }
-            Event::BadTsig { from, key, fault } => {
+            Event::BadTsig {
+                from,
+                key,
+                fault,
+                ..
+            } => {
                 let (key, reason) = (key.to_text(), reason_of(*fault));
                 write!(
                     f,
@@ -247,6 +259,10 @@ impl Display for Event {
             Event::ControlEnd { end } => {
                 f.write_str("control thread exited: ")?;
                 write_control(f, *end)
+            }
+            Event::MetricsEnd { end } => {
+                f.write_str("metrics thread exited: ")?;
+                write_metrics(f, *end)
             }
             Event::Unlogged { end } => {
                 f.write_str("notify thread exited: ")?;
@@ -338,6 +354,14 @@ fn write_unlogged<W: fmt::Write>(f: &mut Formatter<W>, end: JobEnd) -> fmt::Resu
 fn write_control<W: fmt::Write>(f: &mut Formatter<W>, end: JobEnd) -> fmt::Result {
     match end {
         JobEnd::Done(count) => write!(f, "{count} commands served"),
+        other => write_end(f, other),
+    }
+}
+
+/// Writes the reason why the thread that tells metrics ended.
+fn write_metrics<W: fmt::Write>(f: &mut Formatter<W>, end: JobEnd) -> fmt::Result {
+    match end {
+        JobEnd::Done(count) => write!(f, "{count} requests served"),
         other => write_end(f, other),
     }
 }

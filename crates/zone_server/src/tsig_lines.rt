@@ -19,8 +19,20 @@ impl<'a, L: ServiceLog> TsigLines<'a, L> {
 }
 
 impl<'a, L: ServiceLog> TsigLog for TsigLines<'a, L> {
-    fn tell_fault<R: Wait>(&self, rt: &R, from: SocketAddr, key: &Name, fault: TsigFault) {
-        let key = key.copy();
-        self.log.tell(rt, Event::BadTsig { from, key, fault });
+    fn tell_fault<R: Wait>(
+        &self,
+        rt: &R,
+        from: SocketAddr,
+        key: &Name,
+        fault: TsigFault,
+        is_update: bool,
+    ) {
+        let event = Event::BadTsig {
+            from,
+            key: key.copy(),
+            fault,
+            is_update,
+        };
+        self.log.tell(rt, event);
     }
 }

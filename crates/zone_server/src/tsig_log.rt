@@ -18,6 +18,13 @@ pub enum TsigFault {
 
 /// A log of signed requests that are refused.
 pub trait TsigLog {
-    /// Logs that a request from an address is refused, which names this key.
-    fn tell_fault<R: Wait>(&self, rt: &R, from: SocketAddr, key: &Name, fault: TsigFault);
+    /// Logs that a request from an address is refused, which names this key, and whether it is an update.
+    fn tell_fault<R: Wait>(
+        &self,
+        rt: &R,
+        from: SocketAddr,
+        key: &Name,
+        fault: TsigFault,
+        is_update: bool,
+    );
 }

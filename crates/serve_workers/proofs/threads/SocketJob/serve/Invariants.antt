@@ -7,3 +7,9 @@ ghosts-serve_signed_datagrams g a = record { keys = a.signed.now.keys.keys.now; 
 
 abbrev pub ghosts-serve_signed_connections : goal.ghosts-serve_signed_connections
 ghosts-serve_signed_connections g a = record { keys = a.signed.now.keys.keys.now; rights = map (λ own. own.rules.now) a.signed.now.keys.rights.now }
+
+abbrev pub ghosts-serve_signed_datagrams-2 : goal.ghosts-serve_signed_datagrams-2
+ghosts-serve_signed_datagrams-2 g a = record { keys = a.signed.now.keys.keys.now; rights = map (λ own. own.rules.now) a.signed.now.keys.rights.now }
+
+abbrev pub ghosts-serve_counted_signed : goal.ghosts-serve_counted_signed
+ghosts-serve_counted_signed g a = record { keys = a.signed.now.keys.keys.now; rights = map (λ own. own.rules.now) a.signed.now.keys.rights.now }

@@ -3,4 +3,4 @@ use Rattle.std.proofs.Common.{◌≡◌}
 use Rattle.worker_jobs.proofs.worker_socket.WorkerSocket.next.Given as goal
 
 abbrev pub invariant-loop-tried : goal.invariant-loop-tried
-invariant-loop-tried l = l.self.faults ≡ l.initial.self.faults
+invariant-loop-tried g l = l.self.faults ≡ l.initial.self.faults

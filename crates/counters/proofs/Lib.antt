@@ -1,0 +1,3 @@
+pub mod CounterLemmas
+pub mod SendLemmas
+pub mod SumLemmas

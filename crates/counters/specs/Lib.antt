@@ -1,0 +1,12 @@
+pub mod AddressFamilies
+pub mod ConnectionEnds
+pub mod Counter
+pub mod Counters
+pub mod Opcodes
+pub mod Qtypes
+pub mod Rcodes
+pub mod Refusals
+pub mod Sums
+pub mod Times
+pub mod Transfers
+pub mod Transports

@@ -1,0 +1,84 @@
+//! A store whose batches are counted.
+use counters::{Counter, ServerCounters};
+use std::alloc::Global;
+use std::sync::Wait;
+use std::time::Clock;
+use update_batches::{UpdateStore, VersionUpdate};
+
+/// A store, and where its batches are counted, if they are, with the time that the writing of each took.
+pub struct CountedStore<'a, S, C> {
+    store: S,
+    counters: Option<&'a ServerCounters>,
+    clock: &'a C,
+}
+
+impl<'a, S: Drop, C> Drop for CountedStore<'a, S, C> {
+    fn drop(self) {
+        let CountedStore {
+            store: _,
+            counters: _,
+            clock: _,
+        } = self;
+    }
+}
+
+impl<'a, S, C> CountedStore<'a, S, C> {
+    /// A store whose batches are counted here, if they are.
+    pub fn new(
+        store: S,
+        counters: Option<&'a ServerCounters>,
+        clock: &'a C,
+    ) -> CountedStore<'a, S, C> {
+        CountedStore {
+            store,
+            counters,
+            clock,
+        }
+    }
+}
+
+impl<S: UpdateStore, C: Clock> UpdateStore for CountedStore<'_, S, C> {
+    type Fault = S::Fault;
+
+    ghost has = { λ zone counted versions updates. S.has zone counted.store versions updates };
+
+    ghost leaves = { λ zone old new updates. S.leaves zone old.store new.store updates };
+
+    fn tend<R: Wait>(&mut self, rt: &R, alloc: Global) {
+        self.store.tend(rt, alloc);
+    }
+
+    fn append<R: Wait>(
+        &mut self,
+        rt: &R,
+        alloc: Global,
+        updates: &[VersionUpdate],
+    ) -> Result<(), S::Fault> {
+        let Some(counters) = self.counters else {
+            return self.store.append(rt, alloc, updates);
+        };
+        let before = nanos_of(self.clock);
+        let stored = self.store.append(rt, alloc, updates);
+        if stored.is_ok() && !updates.is_empty() {
+            let took = nanos_of(self.clock).saturating_sub(before);
+            count(rt, counters, updates.len() as u64, took);
+        }
+        stored
+    }
+}
+
+/// Counts a batch of so many updates, whose writing took so many nanoseconds.
+fn count<R: Wait>(rt: &R, counters: &ServerCounters, updates: u64, took: u64) {
+    let shared = counters.updates();
+    shared.add_many(rt, Counter::StoreBatch, 1);
+    shared.add_many(rt, Counter::StoreUpdate, updates);
+    shared.add_sync(rt, took);
+}
+
+/// The time that a clock shows, in nanoseconds. 0 where it can't be read.
+fn nanos_of<C: Clock>(clock: &C) -> u64 {
+    match clock.monotonic() {
+        Ok(time) => u64::try_from(time.as_nanos()).unwrap_or(u64::MAX),
+        Err(_) => 0,
+    }
+}

@@ -1,0 +1,40 @@
+-- What a request and a reply add to the counters.
+use Rattle.std.specs.Prelude.{ℕ, ◌==◌, ◌++◌, List, [], ◌∷◌, length, Option, Some, None, if◌then◌else◌}
+use Rattle.counters.specs.declared.counter.Counter.{Counter}
+use Rattle.counters.specs.declared.counter.Counter.TheVariants.{Request, Opcode, Question, Reply, Truncated, ReceivedOctets, SentOctets, Update}
+use Rattle.counters.specs.declared.transport.Transport.{Transport}
+use Rattle.counters.specs.declared.address_family.AddressFamily.{AddressFamily}
+use Rattle.counters.specs.Opcodes.{opcode_of as opcode_named}
+use Rattle.counters.specs.Qtypes.{qtype_of}
+use Rattle.counters.specs.Rcodes.{rcode_of as rcode_named}
+use Rattle.message_counts.specs.Places.{opcode_of, is_truncated, question_type, rcode_of}
+
+-- one more of a counter
+abbrev pub one : Counter → Counter × ℕ
+one counter = (counter, 1)
+
+-- the type that a query asks for (OPCODE 0), where it can be read; other requests ask for none
+abbrev pub queried_type : List ℕ → Option ℕ
+queried_type octets = if opcode_of octets == 0 then question_type octets else None
+
+-- a question of a type that can be read
+abbrev pub question_counts : Option ℕ → List (Counter × ℕ)
+question_counts None = []
+question_counts (Some number) = one (Question (qtype_of number)) ∷ []
+
+-- a request: its transport and its peer's address, its OPCODE, its octets, and of a query its question's type
+abbrev pub request_counts : Transport → AddressFamily → List ℕ → List (Counter × ℕ)
+request_counts transport family octets =
+    one (Request transport family) ∷ (one (Opcode (opcode_named (opcode_of octets))) ∷ ((ReceivedOctets, length octets) ∷ question_counts (queried_type octets)))
+
+-- a reply to an update (RFC 2136, 3.8), by its RCODE
+abbrev pub update_counts : List ℕ → List (Counter × ℕ)
+update_counts octets = if opcode_of octets == 5 then one (Update (rcode_named (rcode_of octets))) ∷ [] else []
+
+-- a reply that is truncated
+abbrev pub truncated_counts : List ℕ → List (Counter × ℕ)
+truncated_counts octets = if is_truncated octets then one Truncated ∷ [] else []
+
+-- a reply: its RCODE, its octets, whether it is truncated, and of an update the same RCODE
+abbrev pub reply_counts : List ℕ → List (Counter × ℕ)
+reply_counts octets = one (Reply (rcode_named (rcode_of octets))) ∷ ((SentOctets, length octets) ∷ (truncated_counts octets ++ update_counts octets))

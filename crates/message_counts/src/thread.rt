@@ -1,0 +1,200 @@
+//! What a thread counts of the requests that it takes and of the replies that it sends.
+
+use crate::count::{UPDATE, count_reply, count_request};
+use crate::places::{id_of, is_reply, opcode_of};
+use crate::transfers::{asks_transfer, transfer_of};
+use counters::{AddressFamily, Counter, Counters, Rcode, SharedCounters, Transport};
+use std::net::SocketAddr;
+use std::time::Clock;
+
+/// After how many requests a thread that doesn't wait shows its numbers (own).
+const SHOWN_EACH: u32 = 64;
+
+/// Counts the datagrams of a thread.
+pub trait DatagramCounts: Drop {
+    /// Counts a request from an address.
+    fn received(&mut self, request: &[u8], from: SocketAddr);
+
+    /// Counts the reply to the request that was counted last, to an address.
+    fn sent(&mut self, reply: &[u8], to: SocketAddr);
+
+    /// The thread is to wait.
+    fn rest(&mut self);
+}
+
+/// Counts nothing.
+#[derive(Clone, Copy)]
+pub struct NoCounts;
+
+impl DatagramCounts for NoCounts {
+    fn received(&mut self, _request: &[u8], _from: SocketAddr) {}
+
+    fn sent(&mut self, _reply: &[u8], _to: SocketAddr) {}
+
+    fn rest(&mut self) {}
+}
+
+/// The numbers of a thread that answers requests. Its clock is read for updates alone.
+pub struct ThreadCounts<'a, C> {
+    counters: Counters,
+    shown: &'a SharedCounters,
+    clock: &'a C,
+    /// The type by which the last request asks for a transfer, if it does.
+    transfer: Option<u16>,
+    /// Whether the last request is none for an update, and has no reply yet.
+    is_open: bool,
+    /// How many requests were counted since the numbers were last shown.
+    unshown: u32,
+}
+
+impl<'a, C> Drop for ThreadCounts<'a, C> {
+    fn drop(self) {
+        let ThreadCounts {
+            counters: _,
+            shown: _,
+            clock: _,
+            transfer: _,
+            is_open: _,
+            unshown: _,
+        } = self;
+    }
+}
+
+impl<'a, C: Clock> ThreadCounts<'a, C> {
+    /// Nothing was counted. The numbers are shown here, and a clock tells how long updates took.
+    pub fn new(shown: &'a SharedCounters, clock: &'a C) -> ThreadCounts<'a, C> {
+        ThreadCounts {
+            counters: Counters::new(),
+            shown,
+            clock,
+            transfer: None,
+            is_open: false,
+            unshown: 0,
+        }
+    }
+
+    /// What others see of the numbers.
+    pub fn shown(&self) -> &'a SharedCounters {
+        self.shown
+    }
+
+    /// Counts a request, over a transport from an address.
+    pub fn take(&mut self, transport: Transport, request: &[u8], from: SocketAddr) {
+        let family = family_of(from);
+        let qtype = count_request(&mut self.counters, transport, family, request);
+        self.transfer = match qtype {
+            Some(number) if asks_transfer(number) => Some(number),
+            _ => None,
+        };
+        self.unshown = self.unshown.wrapping_add(1);
+        if self.unshown >= SHOWN_EACH {
+            self.show();
+        }
+    }
+
+    /// Counts the reply to the request that was counted last: a message, the first one of several, or the only one.
+    pub fn give(&mut self, reply: &[u8]) {
+        count_reply(&mut self.counters, reply);
+        if let Some(qtype) = self.transfer {
+            if let Some(transfer) = transfer_of(qtype, reply) {
+                self.counters.add(Counter::Transfer(transfer));
+            }
+        }
+    }
+
+    /// Counts a reply of several messages, which are counted as they are made: its code is NOERROR (RFC 5936, 2.2). The type by which the request that was counted last asks for a
+    /// transfer, if it does.
+    pub fn give_several(&mut self) -> Option<u16> {
+        self.counters.add(Counter::Reply(Rcode::NoError));
+        self.transfer
+    }
+
+    /// Counts a request without a reply.
+    pub fn drop_request(&mut self) {
+        self.counters.add(Counter::Dropped);
+    }
+
+    /// When a request for an update comes, in nanoseconds of a monotonic clock; None of other messages.
+    pub fn come(&self, request: &[u8]) -> Option<u64> {
+        if opcode_of(request) == UPDATE && !is_reply(request) {
+            Some(nanos_of(self.clock))
+        } else {
+            None
+        }
+    }
+
+    /// Notes when an update came from an address, whose reply is made later.
+    pub fn put_off(&self, request: &[u8], from: SocketAddr, came: u64) {
+        self.shown.put_off_update(from, id_of(request), came);
+    }
+
+    /// Counts how long an update from an address took, which came now if it wasn't put off, and whose reply is made.
+    pub fn finish(&self, request: &[u8], from: SocketAddr, came: u64) {
+        let since = self.shown.take_update(from, id_of(request)).unwrap_or(came);
+        let now = nanos_of(self.clock);
+        self.shown.stream_time(now.saturating_sub(since));
+    }
+
+    /// So many more of a counter.
+    pub fn add_many(&mut self, counter: Counter, more: u64) {
+        self.counters.add_many(counter, more);
+    }
+
+    /// Shows the numbers, unless somebody reads at this moment.
+    pub fn show(&mut self) {
+        if self.shown.show(&self.counters) {
+            self.unshown = 0;
+        }
+    }
+
+    /// Counts the last request as one without a reply, if it has none.
+    fn close(&mut self) {
+        if self.is_open {
+            self.is_open = false;
+            self.drop_request();
+        }
+    }
+}
+
+// A request for an update may get its reply from another thread, which counts it.
+impl<C: Clock> DatagramCounts for ThreadCounts<'_, C> {
+    fn received(&mut self, request: &[u8], from: SocketAddr) {
+        self.close();
+        self.take(Transport::Udp, request, from);
+        self.is_open = opcode_of(request) != UPDATE;
+        if let Some(came) = self.come(request) {
+            self.shown.begin_update(from, id_of(request), came);
+        }
+    }
+
+    fn sent(&mut self, reply: &[u8], to: SocketAddr) {
+        self.is_open = false;
+        self.give(reply);
+        if opcode_of(reply) == UPDATE {
+            let now = nanos_of(self.clock);
+            self.shown.end_update(to, id_of(reply), now);
+        }
+    }
+
+    fn rest(&mut self) {
+        self.close();
+        self.show();
+    }
+}
+
+/// The time that a clock shows, in nanoseconds. 0 where it can't be read.
+pub fn nanos_of<C: Clock>(clock: &C) -> u64 {
+    match clock.monotonic() {
+        Ok(time) => u64::try_from(time.as_nanos()).unwrap_or(u64::MAX),
+        Err(_) => 0,
+    }
+}
+
+/// The family of an address.
+fn family_of(from: SocketAddr) -> AddressFamily {
+    if from.is_ipv4() {
+        AddressFamily::V4
+    } else {
+        AddressFamily::V6
+    }
+}

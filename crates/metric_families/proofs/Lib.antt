@@ -1,0 +1,4 @@
+pub mod BucketLemmas
+pub mod EachLemmas
+pub mod EndedLemmas
+pub mod PutLemmas

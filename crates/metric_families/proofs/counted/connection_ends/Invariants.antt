@@ -1,0 +1,12 @@
+use Rattle.std.proofs.Common.{◌≡◌, codes, drop}
+use Rattle.counters.specs.declared.counter.Counter.TheVariants.{ConnectionEnded}
+use Rattle.counters.specs.Counters.{number_of}
+use Rattle.counters.specs.ConnectionEnds.{connection_end_word}
+use Rattle.metrics_text.specs.Families.{with_samples}
+use Rattle.metric_families.specs.Told.{each_labelled}
+use Rattle.metric_families.specs.Counted.{connection_ends}
+use Rattle.metric_families.proofs.counted.connection_ends.Given as goal
+
+-- what is there, with what is left, is all
+abbrev pub invariant-loop-reason : goal.invariant-loop-reason
+invariant-loop-reason l = with_samples l.family (each_labelled (codes "reason") connection_end_word (λ reason. number_of (ConnectionEnded reason) l.sum.numbers) (drop l.reason-index l.reason-items)) ≡ connection_ends l.sum.numbers

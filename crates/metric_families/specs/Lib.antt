@@ -1,0 +1,5 @@
+pub mod Counted
+pub mod Known
+pub mod Samples
+pub mod Times
+pub mod Told

@@ -1,0 +1,445 @@
+//! The worker that takes the commands of the operator (own).
+ghost use Rattle.std.specs.Prelude.{◌≡◌, Some, IfOk};
+ghost use Rattle.requests.specs.Served.{Grows};
+
+use crate::control_reload::{Reload, Step, after_judging, after_making, order};
+use crate::control_text::{ServedSince, StoreStatus, done, failed, stats, status};
+use crate::reload_slot::{ReloadOrder, Reloads};
+use crate::served_facts::{RecordCount, metrics_of, store_facts};
+use crate::shutdown::Shutdown;
+use control_socket::{ControlClient, ControlCommand, Heard, accept_client};
+use counters::ServerCounters;
+use std::alloc::{AllocError, Global};
+use std::os::unix::net::UnixListener;
+use std::sync::Wait;
+use std::thread;
+use std::time::{Clock, Duration};
+use update_batches::SharedStoreState;
+use zone_server::{Event, JobEnd, LocalUpdates, ServiceLog};
+use zone_tree::Version;
+
+/// How long the worker waits before it looks again, in milliseconds (own).
+const LOOK: u64 = 25;
+
+/// How many clients it has at most at a time; others wait until it has room (own).
+const CLIENTS: usize = 16;
+
+/// The socket for the operator's commands, and what is needed to obey them.
+pub struct ControlPlan {
+    /// The socket, which doesn't block.
+    pub listener: UnixListener,
+    /// Where a reload is ordered; None where the zone has no file to be read again.
+    pub reloads: Option<Reloads>,
+    /// How many threads of the server answer no requests, with this one.
+    pub beside: usize,
+    /// The number of the version that is served first.
+    pub first: u64,
+    /// What is seen of the store; None where there is none.
+    pub store: Option<SharedStoreState>,
+    /// When the server was started, in seconds since 1970.
+    pub started: u64,
+}
+
+impl Drop for ControlPlan {
+    fn drop(self) {
+        let ControlPlan {
+            listener: _,
+            reloads: _,
+            beside: _,
+            first: _,
+            store: _,
+            started: _,
+        } = self;
+    }
+}
+
+/// The job that takes the operator's commands, with its worker's number.
+pub struct ControlJob<'a, C> {
+    /// The number of its worker.
+    pub number: usize,
+    alloc: Global,
+    plan: ControlPlan,
+    /// What the server's threads count, if they do.
+    counters: Option<&'a ServerCounters>,
+    clients: Vec<ControlClient>,
+    reload: Reload,
+    clock: &'a C,
+    shutdown: &'a Shutdown,
+    /// When it was made, in milliseconds of a monotonic clock.
+    begun: u64,
+    records: RecordCount,
+    obeyed: u64,
+    end: Option<JobEnd>,
+}
+
+impl<'a, C> Drop for ControlJob<'a, C> {
+    fn drop(self) {
+        let ControlJob {
+            number: _,
+            alloc: _,
+            plan: _,
+            counters: _,
+            clients: _,
+            reload: _,
+            clock: _,
+            shutdown: _,
+            begun: _,
+            records: _,
+            obeyed: _,
+            end: _,
+        } = self;
+    }
+}
+
+/// What a command's client gets.
+#[derive(Drop)]
+enum Obeyed {
+    /// Its reply.
+    Reply(String),
+    /// Its reply once the reload is over.
+    Later,
+}
+
+impl<'a, C: Clock> ControlJob<'a, C> {
+    /// The job of the worker with this number. `AllocError` where there is no memory.
+    pub fn new(
+        alloc: Global,
+        number: usize,
+        plan: ControlPlan,
+        counters: Option<&'a ServerCounters>,
+        clock: &'a C,
+        shutdown: &'a Shutdown,
+    ) -> Result<ControlJob<'a, C>, AllocError>
+        ensures { IfOk result (λ job. job.number ≡ number) }
+    {
+        Ok(ControlJob {
+            number,
+            alloc,
+            plan,
+            counters,
+            clients: Vec::with_capacity(alloc, CLIENTS)?,
+            reload: Reload::Idle,
+            clock,
+            shutdown,
+            begun: millis_of(clock),
+            records: RecordCount::new(),
+            obeyed: 0,
+            end: None,
+        })
+    }
+
+    /// How the job has ended. None where it hasn't yet.
+    pub fn end(&self) -> Option<JobEnd>
+        ensures { result ≡ self.now.end }
+    {
+        self.end
+    }
+
+    /// Takes the operator's commands until the server is to end, or the threads that answer requests have ended.
+    pub fn serve<R: Wait, A: LocalUpdates, L: ServiceLog>(
+        &mut self,
+        rt: &R,
+        handler: &mut A,
+        log: &L,
+    ) -> JobEnd
+        ensures grows { Grows (A.seen handler.new) (A.seen handler.old) }
+        ensures end { self.new.end ≡ Some result }
+        ensures number { self.new.number ≡ self.old.number }
+    {
+        for _ in rt.forever() {
+            if let Some(end) = self.look(rt, handler, log) {
+                self.end = Some(end);
+                return end;
+            }
+        }
+        unreachable!()
+    }
+
+    /// Does what there is to do, and waits. Gives the end where the server was to end before.
+    fn look<R: Wait, A: LocalUpdates, L: ServiceLog>(
+        &mut self,
+        rt: &R,
+        handler: &mut A,
+        log: &L,
+    ) -> Option<JobEnd>
+        ensures grows { Grows (A.seen handler.new) (A.seen handler.old) }
+        ensures number { self.new.number ≡ self.old.number }
+    {
+        let is_over = self.shutdown.is_ending() || self.shutdown.has_left(self.plan.beside);
+        let now = millis_of(self.clock);
+        self.accept(now);
+        self.hear(rt, handler, now);
+        self.go_on(rt, handler, log, now);
+        if is_over {
+            self.give_up(rt, handler, now);
+            self.write_replies(now);
+            return Some(JobEnd::Done(self.obeyed));
+        }
+        self.write_replies(now);
+        thread::sleep(self.clock, Duration::from_millis(LOOK));
+        None
+    }
+
+    /// Writes what the clients take of their replies. Those with which nothing is left to do are dropped.
+    fn write_replies(&mut self, now: u64)
+        ensures number { self.new.number ≡ self.old.number }
+    {
+        for client in &mut self.clients {
+            client.write(now);
+        }
+        self.clients.retain(|client| !client.is_gone());
+    }
+
+    /// Takes the clients that have come, as many as there is room for.
+    fn accept(&mut self, now: u64)
+        ensures number { self.new.number ≡ self.old.number }
+    {
+        for _room in self.clients.len()..CLIENTS {
+            let Some(client) = accept_client(&self.plan.listener, now) else {
+                break;
+            };
+            if self.clients.push(client).is_err() {
+                break;
+            }
+        }
+    }
+
+    /// Reads what the clients have sent, and obeys their commands.
+    fn hear<R: Wait, A: LocalUpdates>(&mut self, rt: &R, handler: &mut A, now: u64)
+        ensures grows { Grows (A.seen handler.new) (A.seen handler.old) }
+        ensures number { self.new.number ≡ self.old.number }
+    {
+        for at in 0..self.clients.len() {
+            self.hear_at(rt, handler, at, now);
+        }
+    }
+
+    /// Reads what the client at a place has sent, and obeys its command once that is whole.
+    fn hear_at<R: Wait, A: LocalUpdates>(&mut self, rt: &R, handler: &mut A, at: usize, now: u64)
+        ensures grows { Grows (A.seen handler.new) (A.seen handler.old) }
+        ensures number { self.new.number ≡ self.old.number }
+    {
+        let obeyed = match self.heard_from(at, now) {
+            Heard::Nothing => return,
+            Heard::Unknown => {
+                replied(failed(self.alloc, "no command: reload, status, stats or stop"))
+            }
+            Heard::Command(command) => self.obey(rt, handler, command),
+        };
+        self.obeyed = self.obeyed.saturating_add(1);
+        self.settle(at, obeyed, now);
+    }
+
+    /// What the client at a place has sent.
+    fn heard_from(&mut self, at: usize, now: u64) -> Heard
+        ensures number { self.new.number ≡ self.old.number }
+    {
+        match self.clients.get_mut(at) {
+            Some(client) => client.hear(now),
+            None => Heard::Nothing,
+        }
+    }
+
+    /// Gives a client its reply, or lets it wait for the end of the reload. Where there is no memory for a reply it gets none.
+    fn settle(&mut self, at: usize, obeyed: Result<Obeyed, AllocError>, now: u64)
+        ensures number { self.new.number ≡ self.old.number }
+    {
+        let text = match obeyed {
+            Ok(Obeyed::Later) => return,
+            Ok(Obeyed::Reply(text)) => text,
+            Err(_) => String::new(self.alloc),
+        };
+        if let Some(client) = self.clients.get_mut(at) {
+            client.reply(text, now);
+        }
+    }
+
+    /// Obeys a command.
+    fn obey<R: Wait, A: LocalUpdates>(
+        &mut self,
+        rt: &R,
+        handler: &mut A,
+        command: ControlCommand,
+    ) -> Result<Obeyed, AllocError>
+        ensures grows { Grows (A.seen handler.new) (A.seen handler.old) }
+        ensures number { self.new.number ≡ self.old.number }
+    {
+        match command {
+            ControlCommand::Reload => self.begin_reload(rt, handler),
+            ControlCommand::Stop => {
+                self.shutdown.end();
+                Ok(Obeyed::Reply(done(self.alloc)?))
+            }
+            ControlCommand::Status | ControlCommand::Stats => {
+                let Ok(version) = handler.last_version(rt) else {
+                    return Ok(Obeyed::Reply(failed(self.alloc, "no version can be loaded")?));
+                };
+                let text = if command == ControlCommand::Stats {
+                    self.stats(rt, version.get())?
+                } else {
+                    self.status(rt, version.get())?
+                };
+                Ok(Obeyed::Reply(text))
+            }
+        }
+    }
+
+    /// What is served, a line for each of it.
+    fn status<R: Wait>(&self, rt: &R, version: &Version) -> Result<String, AllocError> {
+        let store = match &self.plan.store {
+            None => StoreStatus::None,
+            Some(state) => StoreStatus::Kept {
+                fault: state.fault(rt, self.alloc)?,
+                journal: state.journal(),
+                text: state.text(),
+            },
+        };
+        let since = ServedSince {
+            first: self.plan.first,
+            uptime: millis_of(self.clock).saturating_sub(self.begun) / 1000,
+        };
+        status(self.alloc, version, since, &store)
+    }
+
+    /// The lines for Prometheus.
+    fn stats<R: Wait>(&mut self, rt: &R, version: &Version) -> Result<String, AllocError>
+        ensures number { self.new.number ≡ self.old.number }
+    {
+        let records = self.records.of(version);
+        let started = self.plan.started;
+        let store = store_facts(rt, self.alloc, &self.plan.store)?;
+        let lines = match self.counters {
+            Some(server) => {
+                let mut rounds = Vec::new(self.alloc);
+                let sum = server.sum(rt, &mut rounds);
+                metrics_of(
+                    self.alloc,
+                    started,
+                    version,
+                    records,
+                    Some((server, &sum)),
+                    store,
+                )?
+            }
+            None => metrics_of(self.alloc, started, version, records, None, store)?,
+        };
+        stats(self.alloc, &lines)
+    }
+
+    /// Begins a reload, if none is under way.
+    fn begin_reload<R: Wait, A: LocalUpdates>(
+        &mut self,
+        rt: &R,
+        handler: &mut A,
+    ) -> Result<Obeyed, AllocError>
+        ensures grows { Grows (A.seen handler.new) (A.seen handler.old) }
+        ensures number { self.new.number ≡ self.old.number }
+    {
+        let Some(slot) = &self.plan.reloads else {
+            return Ok(Obeyed::Reply(failed(self.alloc, "the zone came by standard input")?));
+        };
+        if self.reload != Reload::Idle {
+            return Ok(Obeyed::Reply(failed(self.alloc, "a reload is under way")?));
+        }
+        match order(rt, self.alloc, handler, slot)? {
+            Step::GoesOn(reload) => {
+                self.reload = reload;
+                Ok(Obeyed::Later)
+            }
+            Step::Done(text) => Ok(Obeyed::Reply(text)),
+            Step::Failed(reason) => Ok(Obeyed::Reply(failed(self.alloc, reason.as_str())?)),
+        }
+    }
+
+    /// Goes on with the reload, if one is under way. Once it is over, its client gets its reply.
+    fn go_on<R: Wait, A: LocalUpdates, L: ServiceLog>(
+        &mut self,
+        rt: &R,
+        handler: &mut A,
+        log: &L,
+        now: u64,
+    )
+        ensures grows { Grows (A.seen handler.new) (A.seen handler.old) }
+        ensures number { self.new.number ≡ self.old.number }
+    {
+        let Some(slot) = &self.plan.reloads else {
+            return;
+        };
+        let step = match self.reload {
+            Reload::Idle => return,
+            Reload::Made { is_held } => after_making(rt, self.alloc, handler, slot, is_held),
+            Reload::Judged {
+                ticket,
+                summary,
+                is_held,
+            } => after_judging(
+                rt,
+                self.alloc,
+                handler,
+                slot,
+                log,
+                (ticket, summary, is_held),
+            ),
+        };
+        let text = match step {
+            Ok(Step::GoesOn(reload)) => {
+                self.reload = reload;
+                return;
+            }
+            Ok(Step::Done(text)) => Ok(text),
+            Ok(Step::Failed(reason)) => {
+                let text = failed(self.alloc, reason.as_str());
+                log.tell(rt, Event::NotReloaded(reason));
+                text
+            }
+            Err(fault) => Err(fault),
+        };
+        self.reload = Reload::Idle;
+        // The zone that was read isn't needed any more.
+        let _ = slot.order(rt, ReloadOrder::Drop);
+        self.reply_waiting(text, now);
+    }
+
+    /// Gives the client that waits for the reload's end this reply.
+    fn reply_waiting(&mut self, text: Result<String, AllocError>, now: u64)
+        ensures number { self.new.number ≡ self.old.number }
+    {
+        let waiting = self.clients.iter().position(|client| client.is_waiting());
+        if let Some(at) = waiting {
+            self.settle(at, replied(text), now);
+        }
+    }
+
+    /// Gives up the reload that is under way, since the server ends.
+    fn give_up<R: Wait, A: LocalUpdates>(&mut self, rt: &R, handler: &mut A, now: u64)
+        ensures grows { Grows (A.seen handler.new) (A.seen handler.old) }
+        ensures number { self.new.number ≡ self.old.number }
+    {
+        match self.reload {
+            Reload::Judged { ticket, .. } => handler.leave(rt, ticket),
+            Reload::Made { is_held: true } => handler.release(rt),
+            Reload::Made { is_held: false } | Reload::Idle => {}
+        }
+        if self.reload != Reload::Idle {
+            self.reload = Reload::Idle;
+            let text = failed(self.alloc, "the server is ending");
+            self.reply_waiting(text, now);
+        }
+        if let Some(slot) = &self.plan.reloads {
+            slot.end(rt);
+        }
+    }
+}
+
+/// A command's reply, if there was memory for it.
+fn replied(text: Result<String, AllocError>) -> Result<Obeyed, AllocError> {
+    Ok(Obeyed::Reply(text?))
+}
+
+/// The time that a clock shows, in milliseconds. 0 where it can't be read.
+fn millis_of<C: Clock>(clock: &C) -> u64 {
+    match clock.monotonic() {
+        Ok(time) => u64::try_from(time.as_millis()).unwrap_or(u64::MAX),
+        Err(_) => 0,
+    }
+}

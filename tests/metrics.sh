@@ -1,0 +1,343 @@
+#!/usr/bin/env bash
+# Tries the metrics of a running `dnsd serve --metrics` (Prometheus' exposition format, version 0.0.4): requests of each kind by dig and
+# nsupdate, after which each sample is what they should count as, and no other sample has changed; the octets as dig tells them; the replies of
+# HTTP by curl; and what `dnsd control PATH stats` prints. It prints a line a check and a count, and its status is 1 where one failed. It
+# listens on 127.0.0.1 alone, and ends what it starts.
+# Usage: [DNSD=PROGRAM] tests/metrics.sh [--port N]
+#   --port N    dnsd listens on N (by default 15463), and for HTTP on the one behind it
+# It needs Debian's packages bind9-dnsutils, curl and python3, and the program that `make dnsd` builds.
+set -euo pipefail
+cd "$(dirname "$0")/.."
+program=${DNSD:-$PWD/crates/dnsd/out/dnsd}
+port=15463
+while [ $# -gt 0 ]; do
+    case $1 in
+        --port) port=$2; shift 2 ;;
+        *) echo "metrics: no option $1" >&2; exit 2 ;;
+    esac
+done
+[ -x "$program" ] || { echo "metrics: no program at $program: run make dnsd first" >&2; exit 2; }
+for command in dig nsupdate curl python3; do
+    command -v "$command" >/dev/null || {
+        echo "metrics: no $command: it needs Debian's bind9-dnsutils, curl and python3" >&2
+        exit 2
+    }
+done
+. tests/asking.sh
+web=127.0.0.1:$((port + 1))
+
+# The zone: a set of forty addresses needs more than 512 octets.
+zone="$work/zone"
+{
+    cat zones/example.test.zone
+    for i in $(seq 40); do echo "all.example.test. 3600 IN A 192.0.2.$i"; done
+} >"$zone"
+
+# The samples, those of the octets apart.
+samples() {
+    curl -fsS "http://$web/metrics" | grep -v '^#' | grep -v '_bytes\|_seconds\|^process_'
+}
+
+# The number of a sample.
+sample() {
+    curl -fsS "http://$web/metrics" | sed -n "s/^$1 //p"
+}
+
+# Asks by dig, and keeps how many octets it sent and got.
+ask() {
+    dig +qr +tries=1 +time=3 @127.0.0.1 -p "$port" "$@" >"$work/said"
+    awk '/^;; QUERY SIZE/ { print $NF }' "$work/said" >>"$work/sent"
+    awk '/^;; MSG SIZE/ { print $NF }' "$work/said" >>"$work/received"
+}
+
+# The sum of the numbers in a file.
+total() {
+    awk '{ n += $1 } END { print n + 0 }' "$1"
+}
+
+# Runs a command, and tells which samples it changed, each with by how much.
+changes() {
+    samples >"$work/before"
+    "$@" >/dev/null 2>&1 || true
+    # a thread shows its numbers before it waits
+    sleep 0.2
+    samples >"$work/after"
+    awk 'NR == FNR { before[$1] = $2; next } $2 != before[$1] { print $1, $2 - before[$1] }' "$work/before" "$work/after" | LC_ALL=C sort
+}
+
+# Tells a check of what a command changes: what it is, the samples in any order, the command.
+counts() {
+    check "$1" "$(LC_ALL=C sort <<<"$2")" "$(changes "${@:3}")"
+}
+
+update() {
+    printf 'server 127.0.0.1 %s\nzone example.test\n%s\nsend\n' "$port" "$1" | nsupdate "${@:2}"
+}
+
+query='dnsd_requests_total{opcode="QUERY"} 1'
+udp='dnsd_queries_total{transport="udp",family="4"} 1'
+tcp='dnsd_queries_total{transport="tcp",family="4"} 1'
+noerror='dnsd_responses_total{rcode="NOERROR"} 1'
+
+serve "$zone" --metrics "$web" --control "$work/control"
+
+counts 'of UDP: an address' "$udp
+$query
+dnsd_query_types_total{type=\"A\"} 1
+$noerror" ask web.example.test A
+
+counts 'of TCP: a text' "$tcp
+$query
+dnsd_query_types_total{type=\"TXT\"} 1
+$noerror
+dnsd_connections_opened_total 1
+dnsd_connections_ended_total{reason=\"done\"} 1" ask +tcp a.b.example.test TXT
+
+counts 'a name that does not exist' "$udp
+$query
+dnsd_query_types_total{type=\"MX\"} 1
+dnsd_responses_total{rcode=\"NXDOMAIN\"} 1" ask nope.example.test MX
+
+counts 'another zone' "$udp
+$query
+dnsd_query_types_total{type=\"CAA\"} 1
+dnsd_responses_total{rcode=\"REFUSED\"} 1" ask example.com CAA
+
+counts 'a type without a name' "$udp
+$query
+dnsd_query_types_total{type=\"other\"} 1
+$noerror" ask web.example.test TYPE999
+
+counts 'a reply that is truncated' "$udp
+$query
+dnsd_query_types_total{type=\"A\"} 1
+$noerror
+dnsd_truncated_total 1" ask +noedns +ignore all.example.test A
+
+counts 'EDNS of a later version' "$udp
+$query
+dnsd_query_types_total{type=\"A\"} 1
+dnsd_responses_total{rcode=\"BADVERS\"} 1" ask +edns=1 +noednsneg web.example.test A
+
+check 'the octets of requests' "$(total "$work/sent")" "$(sample dnsd_received_bytes_total)"
+check 'the octets of replies' "$(total "$work/received")" "$(sample dnsd_sent_bytes_total)"
+
+counts 'a transfer' "$tcp
+$query
+dnsd_query_types_total{type=\"AXFR\"} 1
+$noerror
+dnsd_transfers_total{type=\"AXFR\",result=\"full\"} 1
+dnsd_connections_opened_total 1
+dnsd_connections_ended_total{reason=\"done\"} 1" ask example.test AXFR
+
+counts 'a transfer of what changed, where nothing did' "$udp
+$query
+dnsd_query_types_total{type=\"IXFR\"} 1
+$noerror
+dnsd_transfers_total{type=\"IXFR\",result=\"current\"} 1" ask +notcp example.test IXFR=1
+
+counts 'an update that changes the zone' "$udp
+dnsd_requests_total{opcode=\"UPDATE\"} 1
+$noerror
+dnsd_updates_total{rcode=\"NOERROR\"} 1
+dnsd_updates_changed_total 1
+dnsd_zone_serial{zone=\"example.test.\"} 1
+dnsd_zone_records{zone=\"example.test.\"} 1
+dnsd_zone_versions_total{zone=\"example.test.\"} 1" update 'update add new.example.test 300 A 192.0.2.77'
+
+counts 'an update whose prerequisite fails' "$udp
+dnsd_requests_total{opcode=\"UPDATE\"} 1
+dnsd_responses_total{rcode=\"YXDOMAIN\"} 1
+dnsd_updates_total{rcode=\"YXDOMAIN\"} 1
+dnsd_updates_refused_total{reason=\"prerequisite\"} 1" update $'prereq nxdomain web.example.test\nupdate add web.example.test 300 A 192.0.2.78'
+
+counts 'an update by TCP' "$tcp
+dnsd_requests_total{opcode=\"UPDATE\"} 1
+$noerror
+dnsd_updates_total{rcode=\"NOERROR\"} 1
+dnsd_updates_changed_total 1
+dnsd_connections_opened_total 1
+dnsd_connections_ended_total{reason=\"done\"} 1
+dnsd_zone_serial{zone=\"example.test.\"} 1
+dnsd_zone_records{zone=\"example.test.\"} 1
+dnsd_zone_versions_total{zone=\"example.test.\"} 1" update 'update add tcp.example.test 300 A 192.0.2.79' -v
+
+counts 'what changed' "$tcp
+$query
+dnsd_query_types_total{type=\"IXFR\"} 1
+$noerror
+dnsd_transfers_total{type=\"IXFR\",result=\"incremental\"} 1
+dnsd_connections_opened_total 1
+dnsd_connections_ended_total{reason=\"done\"} 1" ask example.test IXFR=1
+
+# Each of the three updates has a time, and all of them took some, and less than three seconds.
+check 'times of updates' 3 "$(sample dnsd_update_seconds_count)"
+check 'how long they took' yes "$(sample dnsd_update_seconds_sum | awk '{ print ($1 > 0 && $1 < 3 ? "yes" : $1) }')"
+
+# Puts octets in hexadecimal into a datagram.
+datagram() {
+    printf "$(sed 's/../\\x&/g' <<<"$1")" >"/dev/udp/127.0.0.1/$port"
+}
+
+counts 'a reply, which gets none' "$udp
+$query
+dnsd_dropped_total 1" datagram 000180000000000000000000
+
+counts 'what a zone is told of by who is no secondary' "$udp
+dnsd_requests_total{opcode=\"NOTIFY\"} 1
+dnsd_responses_total{rcode=\"NOTIMP\"} 1" ask +opcode=notify example.test SOA
+
+# What is there by HTTP.
+told() { curl -sS -o "$work/body" -w '%{http_code} %{content_type}' "$@"; }
+check 'metrics' '200 text/plain; version=0.0.4' "$(told "http://$web/metrics")"
+check 'health' '200 text/plain; charset=utf-8 ok' "$(told "http://$web/healthz") $(cat "$work/body")"
+check 'the page' '200 text/html; charset=utf-8' "$(told "http://$web/")"
+check 'the page names the zone' 1 "$(grep -c '<h1>example.test' "$work/body")"
+check 'the page shows the log' yes "$(grep -q 'update from' "$work/body" && echo yes)"
+check 'another path' '404 text/plain; charset=utf-8' "$(told "http://$web/other")"
+check 'another method' '405 text/plain; charset=utf-8' "$(told -X POST "http://$web/metrics")"
+check 'each family once' '' "$(curl -fsS "http://$web/metrics" | sed -n 's/^# TYPE \([^ ]*\).*/\1/p' | sort | uniq -d)"
+
+# A client that says nothing delays nobody.
+exec 9<>"/dev/tcp/127.0.0.1/$((port + 1))"
+check 'metrics beside a client that says nothing' '200 text/plain; version=0.0.4' "$(told -m 2 "http://$web/metrics")"
+exec 9>&-
+
+# The control socket prints the same lines.
+curl -fsS "http://$web/metrics" | grep -v 'dnsd_udp_drops_total\|process_[crv]' | sed 's/ .*//' | sort >"$work/web"
+"$program" control "$work/control" stats | sed 's/ .*//' | sort >"$work/stats"
+check 'stats prints the same families' '' "$(diff "$work/web" "$work/stats")"
+
+unserve
+serve "$zone" --metrics "$web" --allow ''
+counts 'a transfer that is not permitted' "$tcp
+$query
+dnsd_query_types_total{type=\"AXFR\"} 1
+dnsd_responses_total{rcode=\"REFUSED\"} 1
+dnsd_transfers_total{type=\"AXFR\",result=\"refused\"} 1
+dnsd_connections_opened_total 1
+dnsd_connections_ended_total{reason=\"done\"} 1" ask example.test AXFR
+
+counts 'an update that is not permitted' "$udp
+dnsd_requests_total{opcode=\"UPDATE\"} 1
+dnsd_responses_total{rcode=\"REFUSED\"} 1
+dnsd_updates_total{rcode=\"REFUSED\"} 1
+dnsd_updates_refused_total{reason=\"permission\"} 1" update 'update add new.example.test 300 A 192.0.2.77'
+
+# IPv6.
+unserve
+serve "$zone" --metrics "$web" --listen "[::1]:$port"
+counts 'by IPv6' "dnsd_queries_total{transport=\"udp\",family=\"6\"} 1
+$query
+dnsd_query_types_total{type=\"A\"} 1
+$noerror" dig +tries=1 +time=3 @::1 -p "$port" web.example.test A
+counts 'by IPv6 and TCP' "dnsd_queries_total{transport=\"tcp\",family=\"6\"} 1
+$query
+dnsd_query_types_total{type=\"A\"} 1
+$noerror
+dnsd_connections_opened_total 1
+dnsd_connections_ended_total{reason=\"done\"} 1" dig +tcp +tries=1 +time=3 @::1 -p "$port" web.example.test A
+
+# Keys.
+right=$(head -c 32 /dev/zero | base64)
+wrong=$(head -c 32 /dev/zero | tr '\0' '\1' | base64)
+printf 'key "told.example." { algorithm hmac-sha256; secret "%s"; };\n' "$right" >"$work/keys"
+chmod 600 "$work/keys"
+unserve
+serve "$zone" --metrics "$web" --keys "$work/keys" --may 'key told.example: update, transfer'
+counts 'an update by a key' "$udp
+dnsd_requests_total{opcode=\"UPDATE\"} 1
+$noerror
+dnsd_updates_total{rcode=\"NOERROR\"} 1
+dnsd_updates_changed_total 1
+dnsd_zone_serial{zone=\"example.test.\"} 1
+dnsd_zone_records{zone=\"example.test.\"} 1
+dnsd_zone_versions_total{zone=\"example.test.\"} 1" update 'update add new.example.test 300 A 192.0.2.77' -y "hmac-sha256:told.example.:$right"
+check 'its time' 1 "$(sample dnsd_update_seconds_count)"
+counts 'an update whose signature is wrong' "$udp
+dnsd_requests_total{opcode=\"UPDATE\"} 1
+dnsd_responses_total{rcode=\"NOTAUTH\"} 1
+dnsd_updates_total{rcode=\"NOTAUTH\"} 1
+dnsd_updates_refused_total{reason=\"signature\"} 1" update 'update add new.example.test 300 A 192.0.2.78' -y "hmac-sha256:told.example.:$wrong"
+counts 'an update by a key over TCP' "$tcp
+dnsd_requests_total{opcode=\"UPDATE\"} 1
+$noerror
+dnsd_updates_total{rcode=\"NOERROR\"} 1
+dnsd_updates_changed_total 1
+dnsd_connections_opened_total 1
+dnsd_connections_ended_total{reason=\"done\"} 1
+dnsd_zone_serial{zone=\"example.test.\"} 1
+dnsd_zone_records{zone=\"example.test.\"} 1
+dnsd_zone_versions_total{zone=\"example.test.\"} 1" update 'update add tcp.example.test 300 A 192.0.2.79' -v -y "hmac-sha256:told.example.:$right"
+check 'the times of the three' 3 "$(sample dnsd_update_seconds_count)"
+
+# While one worker is busy with queries, scrapes answer, no counter falls, and at the end all are counted.
+unserve
+mkdir "$work/store"
+workers=1 serve "$zone" --metrics "$web" --store "$work/store"
+python3 - "$port" "$web" >"$work/busy" <<'P'
+import re, socket, sys, threading, urllib.request
+port, web = int(sys.argv[1]), sys.argv[2]
+query = bytes.fromhex("000701000001000000000000") + b"\3web\7example\4test\0\0\1\0\1"
+ROUNDS, EACH = 600, 32
+last, faults, scrapes = {}, [], 0
+done = threading.Event()
+def scrape():
+    global scrapes
+    with urllib.request.urlopen(f"http://{web}/metrics", timeout=5) as page:
+        text = page.read().decode()
+    scrapes += 1
+    for line in text.splitlines():
+        name, number = line.rsplit(" ", 1)
+        if re.match(r"[a-z_]*(_total|_count|_sum|_bucket)\b", name):
+            if float(number) < last.get(name, 0): faults.append(name)
+            last[name] = float(number)
+def watch():
+    while not done.is_set(): scrape()
+watcher = threading.Thread(target=watch)
+watcher.start()
+with socket.socket(socket.AF_INET, socket.SOCK_DGRAM) as it:
+    it.connect(("127.0.0.1", port))
+    it.settimeout(5)
+    for _ in range(ROUNDS):
+        for _ in range(EACH): it.send(query)
+        for _ in range(EACH): it.recv(4096)
+done.set()
+watcher.join()
+threading.Event().wait(0.2)
+scrape()
+sent = ROUNDS * EACH
+print("scrapes", "many" if scrapes > 10 else scrapes)
+print("fell", *sorted(set(faults)))
+for name in ('dnsd_queries_total{transport="udp",family="4"}', 'dnsd_query_types_total{type="A"}', 'dnsd_responses_total{rcode="NOERROR"}'):
+    print(name, "all" if last[name] == sent else last[name])
+print("octets", "all" if last["dnsd_received_bytes_total"] == sent * len(query) else last["dnsd_received_bytes_total"])
+P
+check 'a busy worker' 'scrapes many
+fell
+dnsd_queries_total{transport="udp",family="4"} all
+dnsd_query_types_total{type="A"} all
+dnsd_responses_total{rcode="NOERROR"} all
+octets all' "$(cat "$work/busy")"
+check 'the store' 'store ok' "$(curl -fsS "http://$web/" | grep -o 'store [a-z]*' | head -1)"
+journal=$(sample dnsd_store_journal_bytes)
+check 'it takes writes' 0 "$(sample dnsd_store_failing)"
+counts 'an update that is stored' "$udp
+dnsd_requests_total{opcode=\"UPDATE\"} 1
+$noerror
+dnsd_updates_total{rcode=\"NOERROR\"} 1
+dnsd_updates_changed_total 1
+dnsd_store_batches_total 1
+dnsd_store_batch_updates_total 1
+dnsd_zone_serial{zone=\"example.test.\"} 1
+dnsd_zone_records{zone=\"example.test.\"} 1
+dnsd_zone_versions_total{zone=\"example.test.\"} 1" update 'update add new.example.test 300 A 192.0.2.77'
+
+check 'its journal' longer "$([ "$(sample dnsd_store_journal_bytes)" -gt "$journal" ] && echo longer)"
+
+unserve
+serve "$zone"
+check 'nobody listens without the option' '000' "$(curl -sS -o /dev/null -w '%{http_code}' "http://$web/metrics" 2>/dev/null)"
+
+echo "$passed checks passed, $failed failed"
+[ "$failed" -eq 0 ]
