@@ -204,7 +204,7 @@ check 'metrics beside a client that says nothing' '200 text/plain; version=0.0.4
 exec 9>&-
 
 # The control socket prints the same lines.
-curl -fsS "http://$web/metrics" | grep -v 'dnsd_udp_drops_total\|process_[crv]' | sed 's/ .*//' | sort >"$work/web"
+curl -fsS "http://$web/metrics" | sed 's/ .*//' | sort >"$work/web"
 "$program" control "$work/control" stats | sed 's/ .*//' | sort >"$work/stats"
 check 'stats prints the same families' '' "$(diff "$work/web" "$work/stats")"
 
@@ -334,6 +334,39 @@ dnsd_zone_records{zone=\"example.test.\"} 1
 dnsd_zone_versions_total{zone=\"example.test.\"} 1" update 'update add new.example.test 300 A 192.0.2.77'
 
 check 'its journal' longer "$([ "$(sample dnsd_store_journal_bytes)" -gt "$journal" ] && echo longer)"
+
+# Without metrics the control socket tells what needs no counters.
+unserve
+serve "$zone" --control "$work/control"
+"$program" control "$work/control" stats | sed -n 's/^# TYPE \([^ ]*\).*/\1/p' | sort >"$work/stats"
+check 'stats without metrics' "dnsd_build_info
+dnsd_udp_drops_total
+dnsd_zone_records
+dnsd_zone_serial
+dnsd_zone_versions_total
+process_cpu_seconds_total
+process_resident_memory_bytes
+process_start_time_seconds
+process_virtual_memory_bytes" "$(cat "$work/stats")"
+
+# A worker that has ended isn't stuck; a log that nobody reads is: thread 5, after the two of each worker and the update thread.
+unserve
+workers=2 serve "$zone" --metrics "$web" --count 1
+ask web.example.test A
+mkfifo "$work/pipe"
+"$program" serve --listen "127.0.0.1:$((port + 2))" --workers 2 --metrics "127.0.0.1:$((port + 3))" "$zone" 2>"$work/pipe" &
+started+=("$!")
+exec 8<"$work/pipe"
+sed '/^listening on/q' <&8 >/dev/null
+for i in $(seq 40); do
+    for j in $(seq 50); do echo "update add l$i-$j.example.test 300 A 192.0.2.1"; echo send; done
+done | (printf 'server 127.0.0.1 %s\nzone example.test\n' "$((port + 2))"; cat) | nsupdate
+sleep 14
+check 'health after a worker has ended' '200 text/plain; charset=utf-8 ok' "$(told "http://$web/healthz") $(cat "$work/body")"
+check 'health with a log that is stuck' '503 text/plain; charset=utf-8 thread 5 is stuck' "$(told "http://127.0.0.1:$((port + 3))/healthz") $(cat "$work/body")"
+timeout 1 cat <&8 >/dev/null || true
+check 'health once it is read' '200 text/plain; charset=utf-8 ok' "$(told "http://127.0.0.1:$((port + 3))/healthz") $(cat "$work/body")"
+exec 8<&-
 
 unserve
 serve "$zone"

@@ -1,5 +1,5 @@
 //! The operator's commands to a running server: its control socket, and the thread that reads the zone file again for a reload.
-use crate::metrics::{beside_of, started};
+use crate::metrics::{beside_of, drops_for, process_for, started};
 use command_line::Serve;
 use commands::Source;
 use dnsd_setup::{FileReader, StartedZone, bind_control_at, prepare_reloads, remove_control};
@@ -7,7 +7,7 @@ use server_control::ControlPlan;
 use std::alloc::AllocError;
 use std::fs::{File, Files};
 use std::io;
-use std::net::Net;
+use std::net::{Net, SocketAddr};
 use std::os::unix::net::UnixListener;
 use std::rt::Env;
 use std::time::Clock;
@@ -42,7 +42,7 @@ pub fn control_for<
 }
 
 /// What a thread needs that takes commands on a socket.
-fn plan_for<R: AllocGlobal + Clock, S: Fn(FileReader) -> io::Result<()>>(
+fn plan_for<R: Files<File = File> + AllocGlobal + Clock, S: Fn(FileReader) -> io::Result<()>>(
     rt: &R,
     serve: &Serve<'_>,
     listener: UnixListener,
@@ -65,6 +65,8 @@ fn plan_for<R: AllocGlobal + Clock, S: Fn(FileReader) -> io::Result<()>>(
         started: started(rt),
         first: 0,
         store: None,
+        drops: drops_for(rt)?,
+        process: process_for(rt),
     })
 }
 
@@ -75,9 +77,20 @@ pub fn unbind_control<R: Files<File = File>>(rt: &R, serve: &Serve<'_>) {
     }
 }
 
-/// The same for a server that begins with this: the number of its version, and what is seen of its store. Fails if there is not enough memory.
-pub fn control_of(mut plan: ControlPlan, begun: &StartedZone) -> Result<ControlPlan, AllocError> {
+/// The same, if there is that, for a server that begins with this at these addresses: the number of its version, what is seen of its store, and the addresses. Fails if there is not
+/// enough memory.
+pub fn control_of(
+    control: Option<ControlPlan>,
+    begun: &StartedZone,
+    addresses: &[SocketAddr],
+) -> Result<Option<ControlPlan>, AllocError> {
+    let Some(mut plan) = control else {
+        return Ok(None);
+    };
+    for address in addresses {
+        plan.drops.watch(*address)?;
+    }
     plan.first = begun.number();
     plan.store = begun.store_state()?;
-    Ok(plan)
+    Ok(Some(plan))
 }

@@ -2,9 +2,9 @@
 use crate::control::NotBound;
 use command_line::Serve;
 use counters::ServerCounters;
-use dnsd_setup::{StartedZone, bind_metrics};
+use dnsd_setup::{SeenWriter, StartedZone, bind_metrics};
 use log_lines::RecentLines;
-use server_control::{MetricsPlan, ProcessFiles, UdpDrops};
+use server_control::{MetricsPlan, ProcessFiles, SharedWork, UdpDrops, WorkSince};
 use signed_replies::{SystemClock, UnixClock};
 use std::alloc::{AllocError, Global};
 use std::fs::{File, Files};
@@ -33,8 +33,8 @@ const LINES: usize = 20;
 /// The files in which the system lists UDP sockets (Linux, proc(5)).
 const UDP_SOCKETS: [&str; 2] = ["/proc/net/udp", "/proc/net/udp6"];
 
-/// What tells how many datagrams the system drops: the files that can be opened.
-fn drops_for<R: Files<File = File> + AllocGlobal>(rt: &R) -> io::Result<UdpDrops> {
+/// What tells how many datagrams the system drops: the files that can be opened. The fault is a growth that was refused.
+pub fn drops_for<R: Files<File = File> + AllocGlobal>(rt: &R) -> io::Result<UdpDrops> {
     let mut files = Vec::new(rt.alloc());
     for path in UDP_SOCKETS {
         if let Ok(file) = File::open(rt, path) {
@@ -45,7 +45,7 @@ fn drops_for<R: Files<File = File> + AllocGlobal>(rt: &R) -> io::Result<UdpDrops
 }
 
 /// The files in which the system tells of the process (Linux, proc(5)).
-fn process_for<R: Files<File = File>>(rt: &R) -> ProcessFiles {
+pub fn process_for<R: Files<File = File>>(rt: &R) -> ProcessFiles {
     let times = File::open(rt, "/proc/self/stat").ok();
     let memory = File::open(rt, "/proc/self/status").ok();
     ProcessFiles::new(times, memory)
@@ -81,6 +81,8 @@ pub fn metrics_for<R: Files<File = File> + Net + Env + Eprint + AllocGlobal + Cl
             drops: drops_for(rt)?,
             process: process_for(rt),
             lines: Arc::new(rt.alloc(), RecentLines::new(rt.alloc(), LINES))?,
+            updating: Arc::new(rt.alloc(), WorkSince::new())?,
+            logging: Arc::new(rt.alloc(), WorkSince::new())?,
             beside: beside_of(serve),
             store: None,
             started: started(rt),
@@ -90,12 +92,21 @@ pub fn metrics_for<R: Files<File = File> + Net + Env + Eprint + AllocGlobal + Cl
     }
 }
 
-/// Where the log's thread keeps the last lines, if metrics are told. The fault is a request for memory that was refused.
-pub fn recent_of(
-    metrics: Option<&MetricsPlan>,
-) -> Result<Option<Arc<RecentLines, Global>>, AllocError> {
+/// What others see of the log's thread, if metrics are told. The fault is a request for memory that was refused.
+pub fn seen_writer_of(metrics: Option<&MetricsPlan>) -> Result<Option<SeenWriter>, AllocError> {
     match metrics {
-        Some(plan) => Ok(Some(Arc::try_clone(&plan.lines)?)),
+        Some(plan) => Ok(Some(SeenWriter {
+            lines: Arc::try_clone(&plan.lines)?,
+            work: Arc::try_clone(&plan.logging)?,
+        })),
+        None => Ok(None),
+    }
+}
+
+/// Where the update thread shows since when a batch has been under way, if metrics are told. The fault is a request for memory that was refused.
+pub fn update_work_of(metrics: Option<&MetricsPlan>) -> Result<Option<SharedWork>, AllocError> {
+    match metrics {
+        Some(plan) => Ok(Some(Arc::try_clone(&plan.updating)?)),
         None => Ok(None),
     }
 }

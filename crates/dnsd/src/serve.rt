@@ -5,7 +5,7 @@ ghost use Rattle.dnsd_setup.specs.Starts.{CanStart};
 
 use crate::control::{NotBound, control_for, control_of, unbind_control};
 use crate::key_rights::{rights_for, shared_keys};
-use crate::metrics::{counters_for, metrics_for, metrics_of, recent_of};
+use crate::metrics::{counters_for, metrics_for, metrics_of, seen_writer_of, update_work_of};
 use crate::secondaries::{SecondarySockets, secondaries_for};
 use crate::thread_specs::{places_for, thread_specs_for, work_limits_of};
 use crate::warnings::{listening_for, warn, warn_of_zone};
@@ -19,7 +19,7 @@ use dnsd_setup::{
 use key_file::KeyFile;
 use requests::Allowed;
 use serve_workers::{ConnectionPlan, Most, Plan, ThreadSpec, UpdateConfig, WorkLimit, serve_zone};
-use server_control::{ControlPlan, MetricsPlan, ServeFault, Shutdown};
+use server_control::{ControlPlan, MetricsPlan, ServeFault, SharedWork, Shutdown};
 use std::alloc::Global;
 use std::fs::{File, Files};
 use std::marker::Brand;
@@ -230,11 +230,11 @@ fn bind<
         Ok(Err(NotBound)) => return Ok(None),
         Err(fault) => return Err(fault),
     };
-    let recent = match recent_of(metrics.as_ref()) {
-        Ok(recent) => recent,
+    let seen = match seen_writer_of(metrics.as_ref()) {
+        Ok(seen) => seen,
         Err(fault) => return Err(io::Error::from(fault)),
     };
-    let entries = match start_entries(rt, recent) {
+    let entries = match start_entries(rt, seen) {
         Ok(entries) => entries,
         Err(fault) => return Err(io::Error::from(fault)),
     };
@@ -291,11 +291,8 @@ fn serve_on_sockets<
         control,
         metrics,
     } = bound;
-    let control = match control {
-        Some(plan) => Some(control_of(plan, &begun)?),
-        None => None,
-    };
     let (workers, addresses, kept) = sockets.into_parts();
+    let control = control_of(control, &begun, addresses.as_slice())?;
     let metrics = metrics_of(metrics, &begun, addresses.as_slice())?;
     let log = Log::new(entries, listening_for(serve, &begun, addresses, kept));
     warn(rt, serve, &log);
@@ -356,6 +353,9 @@ fn serve_on_workers<
     let Some(progresses) = work_limits_of(alloc, serve.workers, serve.most) else {
         return Err(ServeFault::NoMemory);
     };
+    let Ok(work) = update_work_of(metrics.as_ref()) else {
+        return Err(ServeFault::NoMemory);
+    };
     let telling = WorkLimit::new(u64::MAX);
     let apex = begun.zone().apex();
     let specs = thread_specs_for(
@@ -371,10 +371,10 @@ fn serve_on_workers<
     let Some(specs) = specs else {
         return Err(ServeFault::NoMemory);
     };
-    serve_with_specs(rt, alloc, serve, begun, specs, keys, log)
+    serve_with_specs(rt, alloc, serve, begun, specs, keys, work, log)
 }
 
-/// Serves a zone with one thread for each of these specs.
+/// Serves a zone with one thread for each of these specs. The update thread shows by `work` since when a batch has been under way, if there is that.
 fn serve_with_specs<
     R: Files<File = File>
         + AllocGlobal
@@ -393,6 +393,7 @@ fn serve_with_specs<
     begun: StartedZone,
     specs: Vec<ThreadSpec<'_>>,
     keys: Option<&KeyFile>,
+    work: Option<SharedWork>,
     log: &Log,
 ) -> Result<(), ServeFault>
     requires { CanStart begun }
@@ -430,7 +431,7 @@ fn serve_with_specs<
         items: WAITING,
         octets: serve.update_queue,
     };
-    serve_with_store(rt, alloc, most, begun, texts, specs, plan, log)
+    serve_with_store(rt, alloc, most, begun, texts, specs, plan, work, log)
 }
 
 /// Where updates are stored and counted, with the log of a server.
@@ -448,6 +449,7 @@ fn serve_with_store<
     texts: T,
     specs: Vec<ThreadSpec<'_>>,
     plan: Plan<'_>,
+    work: Option<SharedWork>,
     log: &Log,
 ) -> Result<(), ServeFault>
     requires begun { CanStart begun }
@@ -464,7 +466,7 @@ fn serve_with_store<
         store,
         lock,
     } = zone;
-    let store = CountedStore::new(store, plan.counters, rt);
+    let store = CountedStore::new(store, plan.counters, work, rt);
     let config = UpdateConfig { most, store };
     let served = serve_zone::<R, Brand, CountedLog<'_, Log>, StoreOf<'_, R, T>>(
         rt, alloc, first, later, specs, plan, config, log,

@@ -1,14 +1,21 @@
 //! A store whose batches are counted.
 use counters::{Counter, ServerCounters};
+use server_control::SharedWork;
 use std::alloc::Global;
 use std::sync::Wait;
 use std::time::Clock;
 use update_batches::{UpdateStore, VersionUpdate};
 
-/// A store, and where its batches are counted, if they are, with the time that the writing of each took.
+/// A store, and where its batches are counted, if they are, with the time that the writing of each took, and where others see since when one has been under way.
+///
+/// A batch is under way from when the store is tended before its updates are judged until it is tended again after their replies ([`UpdateStore`]).
 pub struct CountedStore<'a, S, C> {
     store: S,
     counters: Option<&'a ServerCounters>,
+    /// Where others see since when a batch has been under way, if they do.
+    work: Option<SharedWork>,
+    /// Whether the batch that is under way was written.
+    is_written: bool,
     clock: &'a C,
 }
 
@@ -17,22 +24,49 @@ impl<'a, S: Drop, C> Drop for CountedStore<'a, S, C> {
         let CountedStore {
             store: _,
             counters: _,
+            work: _,
+            is_written: _,
             clock: _,
         } = self;
     }
 }
 
 impl<'a, S, C> CountedStore<'a, S, C> {
-    /// A store whose batches are counted here, if they are.
+    /// A store whose batches are counted here, if they are, and are shown as work under way, if there is where to.
     pub fn new(
         store: S,
         counters: Option<&'a ServerCounters>,
+        work: Option<SharedWork>,
         clock: &'a C,
     ) -> CountedStore<'a, S, C> {
         CountedStore {
             store,
             counters,
+            work,
+            is_written: false,
             clock,
+        }
+    }
+}
+
+impl<S, C: Clock> CountedStore<'_, S, C> {
+    /// Shows that a batch begins, where none has been written since the last one ended.
+    fn begin(&self) {
+        if self.is_written {
+            return;
+        }
+        if let Some(work) = &self.work {
+            work.begin(nanos_of(self.clock) / 1_000_000);
+        }
+    }
+
+    /// Shows that the batch that was written has ended.
+    fn end(&self) {
+        if !self.is_written {
+            return;
+        }
+        if let Some(work) = &self.work {
+            work.end();
         }
     }
 }
@@ -45,7 +79,10 @@ impl<S: UpdateStore, C: Clock> UpdateStore for CountedStore<'_, S, C> {
     ghost leaves = { λ zone old new updates. S.leaves zone old.store new.store updates };
 
     fn tend<R: Wait>(&mut self, rt: &R, alloc: Global) {
+        self.begin();
         self.store.tend(rt, alloc);
+        self.end();
+        self.is_written = false;
     }
 
     fn append<R: Wait>(
@@ -54,6 +91,7 @@ impl<S: UpdateStore, C: Clock> UpdateStore for CountedStore<'_, S, C> {
         alloc: Global,
         updates: &[VersionUpdate],
     ) -> Result<(), S::Fault> {
+        self.is_written = true;
         let Some(counters) = self.counters else {
             return self.store.append(rt, alloc, updates);
         };

@@ -47,6 +47,6 @@ pub use reload::{FileReader, prepare_reloads};
 pub use started_zone::{ServedZone, StartedStore, StartedZone, ZoneStore};
 pub use stored::{run_journal, run_stored};
 pub use streams::{Ways, run_on_streams};
-pub use writer::{Entries, Entry, start_entries};
+pub use writer::{Entries, Entry, SeenWriter, start_entries};
 pub use zone_file::{read_text_for, text_for};
 pub use zone_text::ZoneText;

@@ -4,6 +4,7 @@ use crate::peer_lines::{PeerLine, PeerLines};
 use dns_name::Name;
 use dns_rdata::Serial;
 use log_lines::{Level, LogQueue, NextLine, RecentLines, Sink, is_in_journal};
+use server_control::SharedWork;
 use sockets::ServiceManager;
 use std::alloc::{AllocError, Global};
 use std::fmt::Display;
@@ -49,6 +50,15 @@ impl Drop for Shared {
 /// The same, shared by the log and its thread.
 pub type Entries = Arc<Shared, Global>;
 
+/// What others see of the thread that writes the log.
+#[derive(Drop)]
+pub struct SeenWriter {
+    /// The last lines that it wrote.
+    pub lines: Arc<RecentLines, Global>,
+    /// Since when it has been writing.
+    pub work: SharedWork,
+}
+
 /// Standard error and a service manager. What cannot be written is lost.
 #[derive(Drop)]
 struct ErrorLines<E> {
@@ -62,8 +72,8 @@ struct ErrorLines<E> {
     /// When it was last notified, on the monotonic clock.
     notified_at: Duration,
     shared: Entries,
-    /// Where the last lines are kept, if they are.
-    recent: Option<Arc<RecentLines, Global>>,
+    /// Where others see what is written, if they do.
+    seen: Option<SeenWriter>,
     /// Whether lines about clients wait.
     has_peers: bool,
     /// When such lines were last written, on the monotonic clock.
@@ -72,6 +82,7 @@ struct ErrorLines<E> {
 
 impl<E: Eprint + AllocGlobal + Wait + Clock> Sink<Entry> for ErrorLines<E> {
     fn put<R: Wait>(&mut self, _rt: &R, next: NextLine<Entry>) {
+        self.begin();
         let NextLine { lost, line } = next;
         if lost > 0 {
             let mark = Level::Warning.mark(self.in_journal);
@@ -87,8 +98,10 @@ impl<E: Eprint + AllocGlobal + Wait + Clock> Sink<Entry> for ErrorLines<E> {
     }
 
     fn idle(&mut self) -> Option<Duration> {
+        self.begin();
         let peers = self.write_peers();
         let status = self.follow_status();
+        self.end();
         match (peers, status) {
             (Some(peers), Some(status)) => Some(peers.min(status)),
             (Some(one), None) | (None, Some(one)) => Some(one),
@@ -98,6 +111,24 @@ impl<E: Eprint + AllocGlobal + Wait + Clock> Sink<Entry> for ErrorLines<E> {
 }
 
 impl<E: Eprint + AllocGlobal + Wait + Clock> ErrorLines<E> {
+    /// Shows that the thread begins to write, or has got on with it.
+    fn begin(&self) {
+        if let Some(seen) = &self.seen {
+            let now = match self.rt.monotonic() {
+                Ok(now) => u64::try_from(now.as_millis()).unwrap_or(u64::MAX),
+                Err(_) => 0,
+            };
+            seen.work.begin(now);
+        }
+    }
+
+    /// Shows that the thread waits for lines.
+    fn end(&self) {
+        if let Some(seen) = &self.seen {
+            seen.work.end();
+        }
+    }
+
     /// Writes a line.
     fn put_line(&mut self, line: LogLine) {
         let mark = line.level().mark(self.in_journal);
@@ -123,9 +154,9 @@ impl<E: Eprint + AllocGlobal + Wait + Clock> ErrorLines<E> {
 
     /// Keeps a line among the last ones, if these are kept.
     fn keep<L: Display>(&self, line: &L) {
-        if let Some(recent) = &self.recent {
+        if let Some(seen) = &self.seen {
             if let Ok(text) = format!(in self.rt.alloc(); "{line}") {
-                recent.put(&self.rt, text);
+                seen.lines.put(&self.rt, text);
             }
         }
     }
@@ -224,10 +255,10 @@ impl<E: Eprint + AllocGlobal + Wait + Clock> ErrorLines<E> {
 }
 
 /// Starts the thread that writes the log and notifies the service manager named by `NOTIFY_SOCKET`, if it is set (sd_notify(3)). An error is lack of
-/// memory, or a thread that cannot be started; then no thread runs. The last lines are kept in `recent`, if there is that.
+/// memory, or a thread that cannot be started; then no thread runs. Others see what it writes by `seen`, if there is that.
 pub fn start_entries<
     R: Env + Eprint + AllocGlobal + Net + Threads + Wait + Clock + Copy + Send + Drop + 'static,
->(rt: &R, recent: Option<Arc<RecentLines, Global>>) -> Result<Entries, AllocError> {
+>(rt: &R, seen: Option<SeenWriter>) -> Result<Entries, AllocError> {
     let alloc = rt.alloc();
     let shared = Shared {
         queue: LogQueue::new(alloc, MOST_WAITING)?,
@@ -251,7 +282,7 @@ pub fn start_entries<
             is_stale: false,
             notified_at: Duration::from_secs(0),
             shared: read,
-            recent,
+            seen,
             has_peers: false,
             peers_at: Duration::from_secs(0),
         };

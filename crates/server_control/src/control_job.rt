@@ -4,9 +4,11 @@ ghost use Rattle.requests.specs.Served.{Grows};
 
 use crate::control_reload::{Reload, Step, after_judging, after_making, order};
 use crate::control_text::{ServedSince, StoreStatus, done, failed, stats, status};
+use crate::process_files::ProcessFiles;
 use crate::reload_slot::{ReloadOrder, Reloads};
-use crate::served_facts::{RecordCount, metrics_of, store_facts};
+use crate::served_facts::{RecordCount, metrics_of, put_system, store_facts};
 use crate::shutdown::Shutdown;
+use crate::udp_drops::UdpDrops;
 use control_socket::{ControlClient, ControlCommand, Heard, accept_client};
 use counters::ServerCounters;
 use std::alloc::{AllocError, Global};
@@ -38,6 +40,10 @@ pub struct ControlPlan {
     pub store: Option<SharedStoreState>,
     /// When the server was started, in seconds since 1970.
     pub started: u64,
+    /// What the system dropped.
+    pub drops: UdpDrops,
+    /// What the system knows of the process.
+    pub process: ProcessFiles,
 }
 
 impl Drop for ControlPlan {
@@ -49,6 +55,8 @@ impl Drop for ControlPlan {
             first: _,
             store: _,
             started: _,
+            drops: _,
+            process: _,
         } = self;
     }
 }
@@ -308,7 +316,7 @@ impl<'a, C: Clock> ControlJob<'a, C> {
         let records = self.records.of(version);
         let started = self.plan.started;
         let store = store_facts(rt, self.alloc, &self.plan.store)?;
-        let lines = match self.counters {
+        let mut lines = match self.counters {
             Some(server) => {
                 let mut rounds = Vec::new(self.alloc);
                 let sum = server.sum(rt, &mut rounds);
@@ -323,6 +331,12 @@ impl<'a, C: Clock> ControlJob<'a, C> {
             }
             None => metrics_of(self.alloc, started, version, records, None, store)?,
         };
+        put_system(
+            self.alloc,
+            &mut lines,
+            &mut self.plan.drops,
+            &mut self.plan.process,
+        )?;
         stats(self.alloc, &lines)
     }
 

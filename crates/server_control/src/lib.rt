@@ -18,6 +18,7 @@ mod served_facts;
 mod shutdown;
 mod thread_rounds;
 mod udp_drops;
+mod work_since;
 
 pub use control_job::{ControlJob, ControlPlan};
 pub use file_change::file_zone;
@@ -27,3 +28,4 @@ pub use reload_slot::{FileChange, FileZone, ReloadOrder, ReloadResult, ReloadSlo
 pub use serve_fault::ServeFault;
 pub use shutdown::Shutdown;
 pub use udp_drops::UdpDrops;
+pub use work_since::{SharedWork, WorkSince};

@@ -5,10 +5,11 @@ ghost use Rattle.requests.specs.Served.{Grows};
 use crate::metrics_client::{MetricsClient, accept_client};
 use crate::process_files::ProcessFiles;
 use crate::rates::{Rates, is_due};
-use crate::served_facts::{RecordCount, metrics_of, put_drops, put_process, store_facts};
+use crate::served_facts::{RecordCount, metrics_of, put_system, store_facts};
 use crate::shutdown::Shutdown;
 use crate::thread_rounds::ThreadRounds;
 use crate::udp_drops::UdpDrops;
+use crate::work_since::SharedWork;
 use counters::{
     AddressFamily, Counter, Counters, Opcode, SecondaryCounters, ServerCounters, Transport,
 };
@@ -48,6 +49,10 @@ pub struct MetricsPlan {
     pub process: ProcessFiles,
     /// The last lines of the log.
     pub lines: Arc<RecentLines, Global>,
+    /// What the update thread shows of its batches.
+    pub updating: SharedWork,
+    /// What the log's thread shows of its writing.
+    pub logging: SharedWork,
     /// How many threads of the server answer no requests, with this one.
     pub beside: usize,
     /// What is seen of the store; None where there is none.
@@ -63,6 +68,8 @@ impl Drop for MetricsPlan {
             drops: _,
             process: _,
             lines: _,
+            updating: _,
+            logging: _,
             beside: _,
             store: _,
             started: _,
@@ -338,13 +345,12 @@ impl<'a, C: Clock> MetricsJob<'a, C> {
         let (alloc, started) = (self.alloc, self.plan.started);
         let store = store_facts(rt, alloc, &self.plan.store)?;
         let mut body = metrics_of(alloc, started, version, records, counted, store)?;
-        let drops = self.plan.drops.read(alloc)?;
-        if let Some(drops) = &drops {
-            put_drops(alloc, &mut body, drops.as_slice())?;
-        }
-        if let Some(facts) = self.plan.process.read(alloc)? {
-            put_process(alloc, &mut body, facts)?;
-        }
+        put_system(
+            alloc,
+            &mut body,
+            &mut self.plan.drops,
+            &mut self.plan.process,
+        )?;
         replied(self.alloc, Status::Ok, Content::Metrics, &body)
     }
 
@@ -356,14 +362,17 @@ impl<'a, C: Clock> MetricsJob<'a, C> {
         replied(self.alloc, health.status(), Content::Text, &body)
     }
 
-    /// Whether the server is healthy.
+    /// Whether the server is healthy. Its threads are those that answer requests, each of which shows its numbers at least once a second until it ends; then the update thread, which
+    /// may not have a batch under way for too long, from before its judging until after its replies; then the log's thread, which may not write for too long at a time.
     fn health_at<R: Wait>(&self, rt: &R, now: u64) -> Result<Health, AllocError> {
         let is_failing = match store_facts(rt, self.alloc, &self.plan.store)? {
             Some(facts) => facts.is_failing,
             None => false,
         };
-        let is_ending = self.shutdown.is_ending();
-        Ok(health_of(is_ending, is_failing, self.threads.since(), now))
+        let mut since = self.threads.since(self.alloc, self.shutdown.ended())?;
+        since.push(self.plan.updating.since())?;
+        since.push(self.plan.logging.since())?;
+        Ok(health_of(self.shutdown.is_ending(), is_failing, since.as_slice(), now))
     }
 
     /// The page for a person.

@@ -1,4 +1,6 @@
 //! What a server tells of itself, for Prometheus.
+use crate::process_files::ProcessFiles;
+use crate::udp_drops::UdpDrops;
 use command_line::VERSION;
 use counters::{Counters, ServerCounters};
 use metric_families::{
@@ -100,23 +102,32 @@ fn put_counted(
     Ok(())
 }
 
-/// Puts what the system dropped at the end of what is told.
-pub(crate) fn put_drops(
+/// Puts what the system knows at the end of what is told: what it dropped, and what it knows of the process; what can't be read is left out. The fault is a request for memory that was refused.
+pub(crate) fn put_system(
     alloc: Global,
     text: &mut Vec<u8>,
-    drops: &[Drops],
+    drops: &mut UdpDrops,
+    process: &mut ProcessFiles,
 ) -> Result<(), AllocError> {
+    let dropped = drops.read(alloc)?;
+    if let Some(dropped) = &dropped {
+        put_drops(alloc, text, dropped.as_slice())?;
+    }
+    if let Some(facts) = process.read(alloc)? {
+        put_process(alloc, text, facts)?;
+    }
+    Ok(())
+}
+
+/// Puts what the system dropped at the end of what is told.
+fn put_drops(alloc: Global, text: &mut Vec<u8>, drops: &[Drops]) -> Result<(), AllocError> {
     let mut families = Vec::new(alloc);
     drop_families(alloc, &mut families, drops)?;
     write_metrics(text, families.as_slice())
 }
 
 /// Puts what the system knows of the process at the end of what is told.
-pub(crate) fn put_process(
-    alloc: Global,
-    text: &mut Vec<u8>,
-    facts: ProcessFacts,
-) -> Result<(), AllocError> {
+fn put_process(alloc: Global, text: &mut Vec<u8>, facts: ProcessFacts) -> Result<(), AllocError> {
     let mut families = Vec::new(alloc);
     process_families(alloc, &mut families, facts)?;
     write_metrics(text, families.as_slice())

@@ -69,6 +69,11 @@ impl Shutdown {
         self.ended.load(Ordering::SeqCst).saturating_add(left) >= self.threads
     }
 
+    /// How many threads have ended.
+    pub(crate) fn ended(&self) -> usize {
+        self.ended.load(Ordering::SeqCst)
+    }
+
     /// From now on the server is to end, because a thread has ended for a reason of its own.
     pub fn end(&self) {
         self.is_ending.store(true, Ordering::SeqCst);

@@ -41,8 +41,33 @@ impl ThreadRounds {
         Ok(())
     }
 
-    /// Since when each thread hasn't gone round.
-    pub(crate) fn since(&self) -> &[u64] {
-        self.since.as_slice()
+    /// Since when each thread hasn't gone round, where so many have ended: 2^64 - 1 for as many, those that have stood still longest. The fault is a request for memory that was refused.
+    pub(crate) fn since(&self, alloc: Global, ended: usize) -> Result<Vec<u64>, AllocError> {
+        let mut since = Vec::new(alloc);
+        since.extend_from_slice(self.since.as_slice())?;
+        for _ in 0..ended {
+            leave_out_oldest(&mut since);
+        }
+        Ok(since)
     }
+}
+
+/// Has the thread that has stood still longest count as one that waits.
+fn leave_out_oldest(since: &mut Vec<u64>) {
+    let oldest = oldest_of(since.as_slice());
+    let place = since.iter().position(|each| *each == oldest);
+    if let Some(place) = place {
+        if let Some(each) = since.get_mut(place) {
+            *each = u64::MAX;
+        }
+    }
+}
+
+/// The earliest of these times; 2^64 - 1 of none.
+fn oldest_of(since: &[u64]) -> u64 {
+    let mut oldest = u64::MAX;
+    for each in since {
+        oldest = oldest.min(*each);
+    }
+    oldest
 }
