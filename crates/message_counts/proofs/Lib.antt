@@ -1,2 +1,4 @@
+pub mod CountLemmas
 pub mod NameLemmas
 pub mod OwnerLemmas
+pub mod TypeLemmas

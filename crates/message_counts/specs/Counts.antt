@@ -22,10 +22,13 @@ abbrev pub question_counts : Option ℕ → List (Counter × ℕ)
 question_counts None = []
 question_counts (Some number) = one (Question (qtype_of number)) ∷ []
 
--- a request: its transport and its peer's address, its OPCODE, its octets, and of a query its question's type
+-- what a request asks: its OPCODE, its octets, and of a query its question's type
+abbrev pub asked_counts : List ℕ → List (Counter × ℕ)
+asked_counts octets = one (Opcode (opcode_named (opcode_of octets))) ∷ ((ReceivedOctets, length octets) ∷ question_counts (queried_type octets))
+
+-- a request: its transport and its peer's address, and what it asks
 abbrev pub request_counts : Transport → AddressFamily → List ℕ → List (Counter × ℕ)
-request_counts transport family octets =
-    one (Request transport family) ∷ (one (Opcode (opcode_named (opcode_of octets))) ∷ ((ReceivedOctets, length octets) ∷ question_counts (queried_type octets)))
+request_counts transport family octets = one (Request transport family) ∷ asked_counts octets
 
 -- a reply to an update (RFC 2136, 3.8), by its RCODE
 abbrev pub update_counts : List ℕ → List (Counter × ℕ)

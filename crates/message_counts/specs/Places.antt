@@ -1,5 +1,5 @@
 -- What the octets of a message say at their places (RFC 1035, 4.1; RFC 6891, 6.1).
-use Rattle.std.specs.Prelude.{ℕ, zero, suc, ◌+◌, ◌*◌, ◌/◌, ◌%◌, ◌==◌, ◌&&◌, Bool, List, [], ◌∷◌, length, drop, nat_lt, slice_index, Option, Some, None, option_and_then, if◌then◌else◌}
+use Rattle.std.specs.Prelude.{◌≡◌, ◌<◌, ℕ, zero, suc, ◌+◌, ◌-◌, ◌*◌, ◌/◌, ◌%◌, ◌==◌, ◌&&◌, Bool, List, [], ◌∷◌, length, drop, nat_lt, slice_index, Option, Some, None, option_and_then, if◌then◌else◌}
 
 -- the octet at a position; 0 after the last
 abbrev pub octet_at : List ℕ → ℕ → ℕ
@@ -36,9 +36,36 @@ first_name_end octets = if number_at octets 4 == 0 then None else name_end 12 0 
 abbrev pub type_at : List ℕ → ℕ → Option ℕ
 type_at octets at = if nat_lt (length octets) (at + 2) then None else Some (number_at octets at)
 
--- the type of the first question, which comes after its name
+-- the type that comes after the name of the first question
+abbrev pub named_type : List ℕ → Option ℕ
+named_type octets = option_and_then (type_at octets) (first_name_end octets)
+
+-- two numbers of 16 bits, one after the other, as one of 32 bits
+abbrev pub pair_at : List ℕ → ℕ → ℕ
+pair_at octets at = 65536 * number_at octets at + number_at octets (at + 2)
+
+-- whether a header counts one question and no answer (a 1 and then a 0), no authority, and so many additional records (RFC 1035, 4.1.1)
+abbrev pub asks_with : ℕ → List ℕ → Bool
+asks_with additional octets = pair_at octets 4 == 65536 && pair_at octets 8 == additional
+
+-- whether the last octets are an OPT without options: the root, type 41, class and TTL, and RDLENGTH 0 (RFC 6891, 6.1.2)
+abbrev pub ends_with_opt : List ℕ → Bool
+ends_with_opt octets = octet_at octets (length octets - 11) == 0 && (number_at octets (length octets - 10) == 41 && number_at octets (length octets - 2) == 0)
+
+-- the type of the first question: of one alone it stands before the class at the message's end, of one before an OPT without options before
+-- these, and of any other after its name (RFC 1035, 4.1.2)
 abbrev pub question_type : List ℕ → Option ℕ
-question_type octets = option_and_then (type_at octets) (first_name_end octets)
+question_type octets =
+    if nat_lt 16 (length octets) && asks_with 0 octets then Some (number_at octets (length octets - 4))
+    else (if nat_lt 27 (length octets) && (asks_with 1 octets && ends_with_opt octets) then Some (number_at octets (length octets - 15)) else named_type octets)
+
+-- the type is the one after the question's name, where that is in full and the question stands before the message's end, or before a record of
+-- eleven octets there
+abbrev pub TypesAgree : Type 0
+TypesAgree =
+    (octets : List ℕ) (at : ℕ) → pair_at octets 4 ≡ 65536 → first_name_end octets ≡ Some at
+    → ((16 < length octets → pair_at octets 8 ≡ 0 → at + 4 ≡ length octets → question_type octets ≡ named_type octets)
+    × (27 < length octets → pair_at octets 8 ≡ 1 → at + 15 ≡ length octets → question_type octets ≡ named_type octets))
 
 -- the upper eight bits of an RCODE in an OPT at a position: the root, type 41, a class, and then they (RFC 6891, 6.1.2 and 6.1.3)
 abbrev pub opt_code : List ℕ → ℕ → ℕ

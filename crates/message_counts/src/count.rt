@@ -1,7 +1,10 @@
 //! What a request and a reply add to the counters.
-ghost use Rattle.std.specs.Prelude.{◌≡◌, length};
+ghost use Rattle.std.specs.Prelude.{◌≡◌, ◌≢◌, ◌==◌, ◌++◌, length, Some, [], ◌∷◌};
 ghost use Rattle.counters.specs.Counters.{with_counts};
-ghost use Rattle.message_counts.specs.Counts.{queried_type, request_counts, reply_counts, question_counts, update_counts, truncated_counts};
+ghost use Rattle.counters.specs.Rcodes.{rcode_of as rcode_named};
+ghost use Rattle.counters.specs.declared.counter.Counter.TheVariants.{Reply};
+ghost use Rattle.message_counts.specs.Places.{opcode_of, rcode_of};
+ghost use Rattle.message_counts.specs.Counts.{one, asked_counts, queried_type, request_counts, reply_counts, question_counts, update_counts, truncated_counts};
 
 use crate::places::{is_truncated, opcode_of, question_type, rcode_of};
 use counters::{AddressFamily, Counter, Counters, Opcode, Qtype, Rcode, Transport};
@@ -9,11 +12,19 @@ use counters::{AddressFamily, Counter, Counters, Opcode, Qtype, Rcode, Transport
 /// The OPCODE of queries (RFC 1035, 4.1.1).
 const QUERY: u8 = 0;
 
+/// The type A (RFC 1035, 3.4.1).
+const A: u16 = 1;
+
+/// The type AAAA (RFC 3596, 2.1).
+const AAAA: u16 = 28;
+
 /// The OPCODE of updates (RFC 2136, 2.2).
 pub(crate) const UPDATE: u8 = 5;
 
 /// Counts a request: by its transport and its peer's address, by its OPCODE, a query by its question's type too, and its octets. A query
 /// without a question that can be read counts by no type. Returns that type.
+#[inline(always)]
+#[tactic(auto, using(crate::proofs::CountLemmas::of_query))]
 pub fn count_request(
     counters: &mut Counters,
     transport: Transport,
@@ -24,37 +35,93 @@ pub fn count_request(
     ensures asked { result ≡ queried_type request.now }
 {
     counters.add(Counter::Request(transport, family));
-    counters.add(Counter::Opcode(Opcode::of(opcode_of(request))));
+    if opcode_of(request) != QUERY {
+        count_other(counters, request);
+        return None;
+    }
+    counters.add(Counter::Opcode(Opcode::Query));
     counters.add_many(Counter::ReceivedOctets, request.len() as u64);
-    let qtype = queried_type(request);
+    let qtype = question_type(request);
     if let Some(number) = qtype {
-        counters.add(Counter::Question(Qtype::of(number)));
+        count_question(counters, number);
     }
     qtype
 }
 
-/// The type that a query asks for, where it can be read; None of other requests (RFC 1035, 4.1.1).
-fn queried_type(request: &[u8]) -> Option<u16>
-    ensures { result ≡ queried_type request.now }
+/// Counts a request that isn't a query: by its OPCODE, and its octets.
+#[inline(never)]
+#[tactic(auto, using(crate::proofs::CountLemmas::no_question))]
+fn count_other(counters: &mut Counters, request: &[u8])
+    requires other { opcode_of request.now ≢ 0 }
+    ensures { counters.new ≡ with_counts (asked_counts request.now) counters.old }
 {
-    if opcode_of(request) != QUERY {
-        return None;
+    let len = request.len() as u64;
+    counters.add(Counter::Opcode(Opcode::of(opcode_of(request))));
+    counters.add_many(Counter::ReceivedOctets, len);
+}
+
+/// Counts a question of a type, that of an address first, which most ask for.
+fn count_question(counters: &mut Counters, number: u16)
+    ensures { counters.new ≡ with_counts (question_counts (Some number)) counters.old }
+{
+    if number == A {
+        counters.add(Counter::Question(Qtype::A));
+    } else if number == AAAA {
+        counters.add(Counter::Question(Qtype::Aaaa));
+    } else {
+        count_rare(counters, number);
     }
-    question_type(request)
+}
+
+/// Counts a question of any type.
+#[inline(never)]
+fn count_rare(counters: &mut Counters, number: u16)
+    ensures { counters.new ≡ with_counts (question_counts (Some number)) counters.old }
+{
+    counters.add(Counter::Question(Qtype::of(number)));
 }
 
 /// Counts a reply of one message, or the first message of one: by its RCODE, of an update also as that, whether it is truncated, and its
-/// octets.
-pub fn count_reply(counters: &mut Counters, reply: &[u8])
-    ensures { counters.new ≡ with_counts (reply_counts reply.now) counters.old }
+/// octets. Whether it is a reply to an update.
+#[inline(always)]
+pub fn count_reply(counters: &mut Counters, reply: &[u8]) -> bool
+    ensures counts { counters.new ≡ with_counts (reply_counts reply.now) counters.old }
+    ensures update { result ≡ (opcode_of reply.now == 5) }
 {
-    let rcode = Rcode::of(rcode_of(reply));
-    counters.add(Counter::Reply(rcode));
+    let code = rcode_of(reply);
+    if code == 0 {
+        counters.add(Counter::Reply(Rcode::NoError));
+    } else {
+        count_code(counters, code);
+    }
     counters.add_many(Counter::SentOctets, reply.len() as u64);
+    if opcode_of(reply) == QUERY && !is_truncated(reply) {
+        return false;
+    }
+    count_flags(counters, reply, Rcode::of(code))
+}
+
+/// Counts a reply by its RCODE.
+#[inline(never)]
+fn count_code(counters: &mut Counters, code: u16)
+    ensures { counters.new ≡ with_counts (one (Reply (rcode_named code)) ∷ []) counters.old }
+{
+    counters.add(Counter::Reply(Rcode::of(code)));
+}
+
+/// Counts whether a reply is truncated, and as one to an update whether it is that, which it returns.
+#[inline(never)]
+fn count_flags(counters: &mut Counters, reply: &[u8], rcode: Rcode) -> bool
+    requires code { rcode ≡ rcode_named (rcode_of reply.now) }
+    ensures counts { counters.new ≡ with_counts (truncated_counts reply.now ++ update_counts reply.now) counters.old }
+    ensures update { result ≡ (opcode_of reply.now == 5) }
+{
     if is_truncated(reply) {
         counters.add(Counter::Truncated);
     }
-    if opcode_of(reply) == UPDATE {
+    let is_update = opcode_of(reply) == UPDATE;
+    if is_update {
         counters.add(Counter::Update(rcode));
     }
+    is_update
 }

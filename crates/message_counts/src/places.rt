@@ -1,6 +1,6 @@
 //! What octets say at their places.
 ghost use Rattle.std.specs.Prelude.{◌≡◌, ◌<◌, ◌≤◌, ◌==◌, ◌^◌, ◌+◌, ◌*◌, length, drop, slice_index, IfSome};
-ghost use Rattle.message_counts.specs.Places.{octet_at, is_reply, opcode_of, is_truncated, number_at, name_end, first_name_end, question_type, rcode_of, high_code, opt_code};
+ghost use Rattle.message_counts.specs.Places.{octet_at, is_reply, opcode_of, is_truncated, number_at, name_end, first_name_end, pair_at, asks_with, ends_with_opt, named_type, question_type, rcode_of, high_code, opt_code, opt_code_after};
 
 /// Where a header counts its questions (RFC 1035, 4.1.1).
 pub(crate) const QDCOUNT: usize = 4;
@@ -10,6 +10,9 @@ pub(crate) const ANCOUNT: usize = 6;
 
 /// Where a header counts the records of its authority section (RFC 1035, 4.1.1).
 const NSCOUNT: usize = 8;
+
+/// A count of 1, and then one of 0.
+const ONE: u32 = 65_536;
 
 /// How many octets a header has (RFC 1035, 4.1.1).
 pub(crate) const HEADER: usize = 12;
@@ -89,9 +92,36 @@ pub(crate) fn first_name_end(octets: &[u8]) -> Option<usize>
     name_end(octets, HEADER)
 }
 
-/// The type of the first question; None where there is none, or it can't be read (RFC 1035, 4.1.2).
-pub fn question_type(octets: &[u8]) -> Option<u16>
-    ensures { result ≡ question_type octets.now }
+/// Two numbers of 16 bits, one after the other, as one of 32 bits.
+fn pair_at(octets: &[u8], at: usize) -> u32
+    requires { at < 2 ^ 63 + 14 }
+    ensures { result ≡ pair_at octets.now at }
+{
+    65_536 * u32::from(number_at(octets, at)) + u32::from(number_at(octets, at + 2))
+}
+
+/// Whether a message counts one question, no answer, no authority, and so many additional records (RFC 1035, 4.1.1).
+fn asks_with(octets: &[u8], additional: u16) -> bool
+    ensures { result ≡ asks_with additional octets.now }
+{
+    pair_at(octets, QDCOUNT) == ONE && pair_at(octets, NSCOUNT) == u32::from(additional)
+}
+
+/// Whether a message's last octets are an OPT without options: the root, type 41, class and TTL, and RDLENGTH 0 (RFC 6891, 6.1.2).
+fn ends_with_opt(octets: &[u8]) -> bool
+    requires { 27 < length octets.now }
+    ensures { result ≡ ends_with_opt octets.now }
+{
+    let len = octets.len();
+    octet_at(octets, len - 11) == 0
+        && number_at(octets, len - 10) == 41
+        && number_at(octets, len - 2) == 0
+}
+
+/// The type after the name of the first question; None where there is no question, or it can't be read (RFC 1035, 4.1.2).
+#[inline(never)]
+fn named_type(octets: &[u8]) -> Option<u16>
+    ensures { result ≡ named_type octets.now }
 {
     let at = first_name_end(octets)?;
     if octets.len() < at + 2 {
@@ -100,8 +130,24 @@ pub fn question_type(octets: &[u8]) -> Option<u16>
     Some(number_at(octets, at))
 }
 
+/// The type of the first question (RFC 1035, 4.1.2). A question alone has it four octets before the message's end, and one before an OPT without options fifteen; any other is
+/// looked for after its name. None where there is no question, or it can't be read.
+pub fn question_type(octets: &[u8]) -> Option<u16>
+    ensures { result ≡ question_type octets.now }
+{
+    let len = octets.len();
+    if len > 16 && asks_with(octets, 0) {
+        return Some(number_at(octets, len - 4));
+    }
+    if len > 27 && asks_with(octets, 1) && ends_with_opt(octets) {
+        return Some(number_at(octets, len - 15));
+    }
+    named_type(octets)
+}
+
 /// The RCODE: the four bits of the header (RFC 1035, 4.1.1), and of a message without answers and authorities the eight bits above them in
 /// an OPT that comes next after the first question (RFC 6891, 6.1.3).
+#[inline(always)]
 pub fn rcode_of(octets: &[u8]) -> u16
     ensures { result ≡ rcode_of octets.now }
 {
@@ -115,6 +161,14 @@ fn high_code(octets: &[u8]) -> u8
     if number_at(octets, ANCOUNT) != 0 || number_at(octets, NSCOUNT) != 0 {
         return 0;
     }
+    code_after_question(octets)
+}
+
+/// The same of a message in which no answer or authority comes before the OPT.
+#[inline(never)]
+fn code_after_question(octets: &[u8]) -> u8
+    ensures { result ≡ opt_code_after octets.now (first_name_end octets.now) }
+{
     let question = match first_name_end(octets) {
         Some(end) => end + 4,
         None => HEADER,

@@ -78,27 +78,39 @@ impl<'a, C: Clock> ThreadCounts<'a, C> {
         self.shown
     }
 
-    /// Counts a request, over a transport from an address.
-    pub fn take(&mut self, transport: Transport, request: &[u8], from: SocketAddr) {
+    /// Counts a request, over a transport from an address. Whether it is a query whose question can be read.
+    #[inline(always)]
+    pub fn take(&mut self, transport: Transport, request: &[u8], from: SocketAddr) -> bool {
         let family = family_of(from);
         let qtype = count_request(&mut self.counters, transport, family, request);
-        self.transfer = match qtype {
-            Some(number) if asks_transfer(number) => Some(number),
-            _ => None,
-        };
+        self.transfer = None;
+        if let Some(number) = qtype {
+            if asks_transfer(number) {
+                self.transfer = Some(number);
+            }
+        }
         self.unshown = self.unshown.wrapping_add(1);
         if self.unshown >= SHOWN_EACH {
             self.show();
         }
+        qtype.is_some()
     }
 
-    /// Counts the reply to the request that was counted last: a message, the first one of several, or the only one.
-    pub fn give(&mut self, reply: &[u8]) {
-        count_reply(&mut self.counters, reply);
+    /// Counts the reply to the request that was counted last: a message, the first one of several, or the only one. Whether it is a reply to an update.
+    #[inline(always)]
+    pub fn give(&mut self, reply: &[u8]) -> bool {
+        let is_update = count_reply(&mut self.counters, reply);
         if let Some(qtype) = self.transfer {
-            if let Some(transfer) = transfer_of(qtype, reply) {
-                self.counters.add(Counter::Transfer(transfer));
-            }
+            self.give_transfer(qtype, reply);
+        }
+        is_update
+    }
+
+    /// Counts what a request for a transfer got, by its type and its reply's first message.
+    #[inline(never)]
+    fn give_transfer(&mut self, qtype: u16, reply: &[u8]) {
+        if let Some(transfer) = transfer_of(qtype, reply) {
+            self.counters.add(Counter::Transfer(transfer));
         }
     }
 
@@ -147,6 +159,22 @@ impl<'a, C: Clock> ThreadCounts<'a, C> {
         }
     }
 
+    /// Whether a request that isn't a query gets its reply from this thread; the time of one for an update, which may get it from another, is noted.
+    #[inline(never)]
+    fn is_answered(&self, request: &[u8], from: SocketAddr) -> bool {
+        if let Some(came) = self.come(request) {
+            self.shown.begin_update(from, id_of(request), came);
+        }
+        opcode_of(request) != UPDATE
+    }
+
+    /// Counts how long an update took, whose reply this thread sends.
+    #[inline(never)]
+    fn end(&self, reply: &[u8], to: SocketAddr) {
+        let now = nanos_of(self.clock);
+        self.shown.end_update(to, id_of(reply), now);
+    }
+
     /// Counts the last request as one without a reply, if it has none.
     fn close(&mut self) {
         if self.is_open {
@@ -158,21 +186,17 @@ impl<'a, C: Clock> ThreadCounts<'a, C> {
 
 // A request for an update may get its reply from another thread, which counts it.
 impl<C: Clock> DatagramCounts for ThreadCounts<'_, C> {
+    #[inline(always)]
     fn received(&mut self, request: &[u8], from: SocketAddr) {
         self.close();
-        self.take(Transport::Udp, request, from);
-        self.is_open = opcode_of(request) != UPDATE;
-        if let Some(came) = self.come(request) {
-            self.shown.begin_update(from, id_of(request), came);
-        }
+        self.is_open = self.take(Transport::Udp, request, from) || self.is_answered(request, from);
     }
 
+    #[inline(always)]
     fn sent(&mut self, reply: &[u8], to: SocketAddr) {
         self.is_open = false;
-        self.give(reply);
-        if opcode_of(reply) == UPDATE {
-            let now = nanos_of(self.clock);
-            self.shown.end_update(to, id_of(reply), now);
+        if self.give(reply) {
+            self.end(reply, to);
         }
     }
 

@@ -167,7 +167,8 @@ impl<'a, T: DatagramCounts> WorkerSocket<'a, T> {
         }
     }
 
-    /// Called where no datagram has come: sends the replies that are held back, and has the next datagram waited for.
+    /// Called where no datagram has come, though one was waited for or none was: sends the replies that are held back, has the next datagram waited for, and the counts rest
+    /// meanwhile.
     fn wait(&mut self) -> io::Result<()>
         ensures { self.new.faults ≡ self.old.faults }
     {
@@ -176,16 +177,8 @@ impl<'a, T: DatagramCounts> WorkerSocket<'a, T> {
             self.socket.set_nonblocking(false)?;
             self.mode = Mode::Waiting(0);
         }
+        self.counts.rest();
         Ok(())
-    }
-
-    /// Has the counts rest where the next receive waits.
-    fn rest(&mut self)
-        ensures { self.new.faults ≡ self.old.faults }
-    {
-        if let Mode::Waiting(_) = self.mode {
-            self.counts.rest();
-        }
     }
 
     /// Receives a datagram at the front of a buffer, and gives how many octets it has there and its sender's address. None where the socket has
@@ -199,7 +192,6 @@ impl<'a, T: DatagramCounts> WorkerSocket<'a, T> {
                 return None;
             }
             self.prepare().ok()?;
-            self.rest();
             match self.socket.recv_from(buf) {
                 Ok(received) => {
                     self.note(received.0);
