@@ -59,8 +59,8 @@ total() {
 changes() {
     samples >"$work/before"
     "$@" >/dev/null 2>&1 || true
-    # a thread shows its numbers before it waits
-    sleep 0.2
+    # a thread shows its numbers a second after its last request
+    sleep 1.2
     samples >"$work/after"
     awk 'NR == FNR { before[$1] = $2; next } $2 != before[$1] { print $1, $2 - before[$1] }' "$work/before" "$work/after" | LC_ALL=C sort
 }
@@ -304,7 +304,7 @@ with socket.socket(socket.AF_INET, socket.SOCK_DGRAM) as it:
         for _ in range(EACH): it.recv(4096)
 done.set()
 watcher.join()
-threading.Event().wait(0.2)
+threading.Event().wait(1.2)
 scrape()
 sent = ROUNDS * EACH
 print("scrapes", "many" if scrapes > 10 else scrapes)
