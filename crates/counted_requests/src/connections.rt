@@ -9,7 +9,7 @@ ghost use Rattle.tcp_connections.specs.declared.handler.Reply.{Reply as ReplyOf}
 use crate::messages::CountedMessages;
 use crate::resting::Resting;
 use counters::{ConnectionEnd, Counter, Transport};
-use message_counts::ThreadCounts;
+use message_counts::{ThreadCounts, family_of};
 use requests::StreamEnd;
 use serve_core::Peer;
 use std::marker::PhantomData;
@@ -98,7 +98,8 @@ impl<'a, M: Messages, A: Handler<M> + Drop, C: Clock> CountingConnections<'a, M,
         if let Some(came) = came {
             self.counts.finish(request, self.from, came);
         }
-        self.counts.take(Transport::Tcp, request, self.from);
+        self.counts
+            .take(Transport::Tcp, family_of(self.from), request);
         match made {
             Reply::Later => Reply::Later,
             Reply::Silent => {

@@ -1,13 +1,16 @@
 -- What a request and a reply add to the counters.
 use Rattle.std.specs.Prelude.{ℕ, ◌==◌, ◌++◌, List, [], ◌∷◌, length, Option, Some, None, if◌then◌else◌}
 use Rattle.counters.specs.declared.counter.Counter.{Counter}
-use Rattle.counters.specs.declared.counter.Counter.TheVariants.{Request, Opcode, Question, Reply, Truncated, ReceivedOctets, SentOctets, Update}
+use Rattle.counters.specs.declared.counter.Counter.TheVariants.{Request, Opcode, Question, Reply, Truncated, ReceivedOctets, SentOctets, Update, Transfer}
 use Rattle.counters.specs.declared.transport.Transport.{Transport}
 use Rattle.counters.specs.declared.address_family.AddressFamily.{AddressFamily}
 use Rattle.counters.specs.Opcodes.{opcode_of as opcode_named}
 use Rattle.counters.specs.Qtypes.{qtype_of}
 use Rattle.counters.specs.Rcodes.{rcode_of as rcode_named}
+use Rattle.counters.specs.declared.address_family.AddressFamily.TheVariants.{V4, V6}
+use Rattle.counters.specs.declared.transfer.Transfer.{Transfer as TransferKind}
 use Rattle.message_counts.specs.Places.{opcode_of, is_truncated, question_type, rcode_of}
+use Rattle.message_counts.specs.Transfers.{asks_transfer, transfer_of}
 
 -- one more of a counter
 abbrev pub one : Counter → Counter × ℕ
@@ -41,3 +44,18 @@ truncated_counts octets = if is_truncated octets then one Truncated ∷ [] else 
 -- a reply: its RCODE, its octets, whether it is truncated, and of an update the same RCODE
 abbrev pub reply_counts : List ℕ → List (Counter × ℕ)
 reply_counts octets = one (Reply (rcode_named (rcode_of octets))) ∷ ((SentOctets, length octets) ∷ (truncated_counts octets ++ update_counts octets))
+
+-- the type by which a request asks for a transfer, if it does, by the type that it asks for
+abbrev pub transfer_asked : Option ℕ → Option ℕ
+transfer_asked None = None
+transfer_asked (Some qtype) = if asks_transfer qtype then Some qtype else None
+
+-- a transfer, by what it got
+abbrev pub got_counts : Option TransferKind → List (Counter × ℕ)
+got_counts None = []
+got_counts (Some transfer) = one (Transfer transfer) ∷ []
+
+-- the reply to a request that may have asked for a transfer, by a type
+abbrev pub transfer_counts : Option ℕ → List ℕ → List (Counter × ℕ)
+transfer_counts None reply = []
+transfer_counts (Some qtype) reply = got_counts (transfer_of qtype reply)

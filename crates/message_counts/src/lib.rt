@@ -14,5 +14,5 @@ mod transfers;
 pub use count::{count_reply, count_request};
 pub use laws::types_agree;
 pub use places::{id_of, is_truncated, opcode_of, question_type, rcode_of};
-pub use thread::{DatagramCounts, NoCounts, ThreadCounts, nanos_of};
+pub use thread::{DatagramCounts, NoCounts, ThreadCounts, family_of, nanos_of};
 pub use transfers::{asks_transfer, transfer_of};

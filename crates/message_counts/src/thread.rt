@@ -1,4 +1,9 @@
 //! What a thread counts of the requests that it takes and of the replies that it sends.
+ghost use Rattle.std.specs.Prelude.{◌≡◌, Some};
+ghost use Rattle.counters.specs.Counters.{no_counters, with_counts, with_more};
+ghost use Rattle.counters.specs.declared.counter.Counter.TheVariants.{Dropped, Reply};
+ghost use Rattle.counters.specs.declared.rcode.Rcode.TheVariants.{NoError};
+ghost use Rattle.message_counts.specs.Counts.{queried_type, reply_counts, request_counts, transfer_asked, transfer_counts};
 
 use crate::count::{UPDATE, count_reply, count_request};
 use crate::places::{id_of, is_reply, opcode_of};
@@ -62,7 +67,9 @@ impl<'a, C> Drop for ThreadCounts<'a, C> {
 
 impl<'a, C: Clock> ThreadCounts<'a, C> {
     /// Nothing was counted. The numbers are shown here, and a clock tells how long updates took.
-    pub fn new(shown: &'a SharedCounters, clock: &'a C) -> ThreadCounts<'a, C> {
+    pub fn new(shown: &'a SharedCounters, clock: &'a C) -> ThreadCounts<'a, C>
+        ensures { result.counters ≡ no_counters }
+    {
         ThreadCounts {
             counters: Counters::new(),
             shown,
@@ -78,10 +85,12 @@ impl<'a, C: Clock> ThreadCounts<'a, C> {
         self.shown
     }
 
-    /// Counts a request, over a transport from an address. Whether it is a query whose question can be read.
+    /// Counts a request, over a transport from an address of a family. Whether it is a query whose question can be read.
     #[inline(always)]
-    pub fn take(&mut self, transport: Transport, request: &[u8], from: SocketAddr) -> bool {
-        let family = family_of(from);
+    pub fn take(&mut self, transport: Transport, family: AddressFamily, request: &[u8]) -> bool
+        ensures counters { self.new.counters ≡ with_counts (request_counts transport family request.now) self.old.counters }
+        ensures transfer { self.new.transfer ≡ transfer_asked (queried_type request.now) }
+    {
         let qtype = count_request(&mut self.counters, transport, family, request);
         self.transfer = None;
         if let Some(number) = qtype {
@@ -98,7 +107,9 @@ impl<'a, C: Clock> ThreadCounts<'a, C> {
 
     /// Counts the reply to the request that was counted last: a message, the first one of several, or the only one. Whether it is a reply to an update.
     #[inline(always)]
-    pub fn give(&mut self, reply: &[u8]) -> bool {
+    pub fn give(&mut self, reply: &[u8]) -> bool
+        ensures { self.new.counters ≡ with_counts (transfer_counts self.old.transfer reply.now) (with_counts (reply_counts reply.now) self.old.counters) }
+    {
         let is_update = count_reply(&mut self.counters, reply);
         if let Some(qtype) = self.transfer {
             self.give_transfer(qtype, reply);
@@ -108,7 +119,9 @@ impl<'a, C: Clock> ThreadCounts<'a, C> {
 
     /// Counts what a request for a transfer got, by its type and its reply's first message.
     #[inline(never)]
-    fn give_transfer(&mut self, qtype: u16, reply: &[u8]) {
+    fn give_transfer(&mut self, qtype: u16, reply: &[u8])
+        ensures { self.new.counters ≡ with_counts (transfer_counts (Some qtype) reply.now) self.old.counters }
+    {
         if let Some(transfer) = transfer_of(qtype, reply) {
             self.counters.add(Counter::Transfer(transfer));
         }
@@ -116,13 +129,18 @@ impl<'a, C: Clock> ThreadCounts<'a, C> {
 
     /// Counts a reply of several messages, which are counted as they are made: its code is NOERROR (RFC 5936, 2.2). The type by which the request that was counted last asks for a
     /// transfer, if it does.
-    pub fn give_several(&mut self) -> Option<u16> {
+    pub fn give_several(&mut self) -> Option<u16>
+        ensures counters { self.new.counters ≡ with_more (Reply NoError) 1 self.old.counters }
+        ensures transfer { result ≡ self.old.transfer }
+    {
         self.counters.add(Counter::Reply(Rcode::NoError));
         self.transfer
     }
 
     /// Counts a request without a reply.
-    pub fn drop_request(&mut self) {
+    pub fn drop_request(&mut self)
+        ensures { self.new.counters ≡ with_more Dropped 1 self.old.counters }
+    {
         self.counters.add(Counter::Dropped);
     }
 
@@ -148,12 +166,17 @@ impl<'a, C: Clock> ThreadCounts<'a, C> {
     }
 
     /// So many more of a counter.
-    pub fn add_many(&mut self, counter: Counter, more: u64) {
+    pub fn add_many(&mut self, counter: Counter, more: u64)
+        ensures { self.new.counters ≡ with_more counter more self.old.counters }
+    {
         self.counters.add_many(counter, more);
     }
 
     /// Shows the numbers, unless somebody reads at this moment.
-    pub fn show(&mut self) {
+    pub fn show(&mut self)
+        ensures counters { self.new.counters ≡ self.old.counters }
+        ensures transfer { self.new.transfer ≡ self.old.transfer }
+    {
         if self.shown.show(&self.counters) {
             self.unshown = 0;
         }
@@ -189,7 +212,8 @@ impl<C: Clock> DatagramCounts for ThreadCounts<'_, C> {
     #[inline(always)]
     fn received(&mut self, request: &[u8], from: SocketAddr) {
         self.close();
-        self.is_open = self.take(Transport::Udp, request, from) || self.is_answered(request, from);
+        self.is_open = self.take(Transport::Udp, family_of(from), request)
+            || self.is_answered(request, from);
     }
 
     #[inline(always)]
@@ -215,7 +239,7 @@ pub fn nanos_of<C: Clock>(clock: &C) -> u64 {
 }
 
 /// The family of an address.
-fn family_of(from: SocketAddr) -> AddressFamily {
+pub fn family_of(from: SocketAddr) -> AddressFamily {
     if from.is_ipv4() {
         AddressFamily::V4
     } else {
