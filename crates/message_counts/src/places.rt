@@ -1,6 +1,6 @@
 //! What octets say at their places.
 ghost use Rattle.std.specs.Prelude.{◌≡◌, ◌<◌, ◌≤◌, ◌==◌, ◌^◌, ◌+◌, ◌*◌, length, drop, slice_index, IfSome};
-ghost use Rattle.message_counts.specs.Places.{octet_at, is_reply, opcode_of, is_truncated, number_at, name_end, first_name_end, pair_at, asks_with, ends_with_opt, named_type, question_type, rcode_of, high_code, opt_code, opt_code_after};
+ghost use Rattle.message_counts.specs.Places.{octet_at, is_reply, opcode_of, is_truncated, number_at, name_end, first_name_end, pair_at, ends_with_opt, named_type, question_type, rcode_of, high_code, opt_code, opt_code_after};
 
 /// Where a header counts its questions (RFC 1035, 4.1.1).
 pub(crate) const QDCOUNT: usize = 4;
@@ -25,6 +25,7 @@ fn octet_at(octets: &[u8], at: usize) -> u8
 }
 
 /// The number of 16 bits at a position (RFC 1035, 2.3.2); octets after the last are 0.
+#[inline(always)]
 pub(crate) fn number_at(octets: &[u8], at: usize) -> u16
     requires { at < 2 ^ 63 + 16 }
     ensures { result ≡ number_at octets.now at }
@@ -49,6 +50,7 @@ pub(crate) fn is_reply(octets: &[u8]) -> bool
 }
 
 /// The OPCODE (RFC 1035, 4.1.1).
+#[inline(always)]
 pub fn opcode_of(octets: &[u8]) -> u8
     ensures { result ≡ opcode_of octets.now }
 {
@@ -93,18 +95,12 @@ pub(crate) fn first_name_end(octets: &[u8]) -> Option<usize>
 }
 
 /// Two numbers of 16 bits, one after the other, as one of 32 bits.
+#[inline(always)]
 fn pair_at(octets: &[u8], at: usize) -> u32
     requires { at < 2 ^ 63 + 14 }
     ensures { result ≡ pair_at octets.now at }
 {
     65_536 * u32::from(number_at(octets, at)) + u32::from(number_at(octets, at + 2))
-}
-
-/// Whether a message counts one question, no answer, no authority, and so many additional records (RFC 1035, 4.1.1).
-fn asks_with(octets: &[u8], additional: u16) -> bool
-    ensures { result ≡ asks_with additional octets.now }
-{
-    pair_at(octets, QDCOUNT) == ONE && pair_at(octets, NSCOUNT) == u32::from(additional)
 }
 
 /// Whether a message's last octets are an OPT without options: the root, type 41, class and TTL, and RDLENGTH 0 (RFC 6891, 6.1.2).
@@ -132,14 +128,23 @@ fn named_type(octets: &[u8]) -> Option<u16>
 
 /// The type of the first question (RFC 1035, 4.1.2). A question alone has it four octets before the message's end, and one before an OPT without options fifteen; any other is
 /// looked for after its name. None where there is no question, or it can't be read.
+#[inline(always)]
 pub fn question_type(octets: &[u8]) -> Option<u16>
     ensures { result ≡ question_type octets.now }
 {
     let len = octets.len();
-    if len > 16 && asks_with(octets, 0) {
+    if len <= 16 || pair_at(octets, QDCOUNT) != ONE {
+        return named_type(octets);
+    }
+    // both of NSCOUNT and ARCOUNT
+    let more = pair_at(octets, NSCOUNT);
+    if more > 1 {
+        return named_type(octets);
+    }
+    if more == 0 {
         return Some(number_at(octets, len - 4));
     }
-    if len > 27 && asks_with(octets, 1) && ends_with_opt(octets) {
+    if len > 27 && ends_with_opt(octets) {
         return Some(number_at(octets, len - 15));
     }
     named_type(octets)

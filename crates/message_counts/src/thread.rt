@@ -48,8 +48,8 @@ pub struct ThreadCounts<'a, C> {
     transfer: Option<u16>,
     /// Whether the last request is none for an update, and has no reply yet.
     is_open: bool,
-    /// How many requests were counted since the numbers were last shown.
-    unshown: u32,
+    /// After how many requests the numbers are shown.
+    left: u32,
 }
 
 impl<'a, C> Drop for ThreadCounts<'a, C> {
@@ -60,7 +60,7 @@ impl<'a, C> Drop for ThreadCounts<'a, C> {
             clock: _,
             transfer: _,
             is_open: _,
-            unshown: _,
+            left: _,
         } = self;
     }
 }
@@ -76,7 +76,7 @@ impl<'a, C: Clock> ThreadCounts<'a, C> {
             clock,
             transfer: None,
             is_open: false,
-            unshown: 0,
+            left: SHOWN_EACH,
         }
     }
 
@@ -98,8 +98,8 @@ impl<'a, C: Clock> ThreadCounts<'a, C> {
                 self.transfer = Some(number);
             }
         }
-        self.unshown = self.unshown.wrapping_add(1);
-        if self.unshown >= SHOWN_EACH {
+        self.left = self.left.wrapping_sub(1);
+        if self.left == 0 {
             self.show();
         }
         qtype.is_some()
@@ -172,14 +172,17 @@ impl<'a, C: Clock> ThreadCounts<'a, C> {
         self.counters.add_many(counter, more);
     }
 
-    /// Shows the numbers, unless somebody reads at this moment.
+    /// Shows the numbers, unless somebody reads at this moment: then they are shown after the next request.
+    #[inline(never)]
     pub fn show(&mut self)
         ensures counters { self.new.counters ≡ self.old.counters }
         ensures transfer { self.new.transfer ≡ self.old.transfer }
     {
-        if self.shown.show(&self.counters) {
-            self.unshown = 0;
-        }
+        self.left = if self.shown.show(&self.counters) {
+            SHOWN_EACH
+        } else {
+            1
+        };
     }
 
     /// Whether a request that isn't a query gets its reply from this thread; the time of one for an update, which may get it from another, is noted.
