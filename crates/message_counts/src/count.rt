@@ -1,12 +1,15 @@
 //! What a request and a reply add to the counters.
-ghost use Rattle.std.specs.Prelude.{◌≡◌, ◌≢◌, ◌==◌, ◌++◌, length, Some, [], ◌∷◌};
+ghost use Rattle.std.specs.Prelude.{◌≡◌, ◌≢◌, ◌==◌, ◌++◌, length, Some, None, true, false, [], ◌∷◌};
 ghost use Rattle.counters.specs.Counters.{with_counts};
 ghost use Rattle.counters.specs.Rcodes.{rcode_of as rcode_named};
 ghost use Rattle.counters.specs.declared.counter.Counter.TheVariants.{Reply};
 ghost use Rattle.message_counts.specs.Places.{opcode_of, rcode_of};
-ghost use Rattle.message_counts.specs.Counts.{one, asked_counts, queried_type, request_counts, reply_counts, question_counts, update_counts, truncated_counts};
+ghost use Rattle.message_counts.specs.Counts.{one, asked_counts, queried_type, request_counts, reply_counts, question_counts, transfer_asked, update_counts, truncated_counts};
 
-use crate::places::{is_truncated, opcode_of, question_type, rcode_of};
+use crate::places::{
+    ANCOUNT, HEADER, NSCOUNT, is_truncated, low_code, number_at, opcode_of, question_type,
+    rcode_of, type_at_end,
+};
 use counters::{AddressFamily, Counter, Counters, Opcode, Qtype, Rcode, Transport};
 
 /// The OPCODE of queries (RFC 1035, 4.1.1).
@@ -21,9 +24,38 @@ const AAAA: u16 = 28;
 /// The OPCODE of updates (RFC 2136, 2.2).
 pub(crate) const UPDATE: u8 = 5;
 
+/// Counts a request as [`count_request`] does, where it is a query for an address that asks for nothing else, as most are: whether it is one. Nothing is counted of any other.
+#[inline(always)]
+pub(crate) fn count_address_query(
+    counters: &mut Counters,
+    transport: Transport,
+    family: AddressFamily,
+    request: &[u8],
+) -> bool
+    ensures counted { result ≡ true → counters.new ≡ with_counts (request_counts transport family request.now) counters.old }
+    ensures asked { result ≡ true → transfer_asked (queried_type request.now) ≡ None }
+    ensures not { result ≡ false → counters.new ≡ counters.old }
+{
+    if opcode_of(request) != QUERY {
+        return false;
+    }
+    let number = type_at_end(request);
+    if number != A && number != AAAA {
+        return false;
+    }
+    counters.add(Counter::Request(transport, family));
+    counters.add(Counter::Opcode(Opcode::Query));
+    counters.add_many(Counter::ReceivedOctets, request.len() as u64);
+    if number == A {
+        counters.add(Counter::Question(Qtype::A));
+    } else {
+        counters.add(Counter::Question(Qtype::Aaaa));
+    }
+    true
+}
+
 /// Counts a request: by its transport and its peer's address, by its OPCODE, a query by its question's type too, and its octets. A query
 /// without a question that can be read counts by no type. Returns that type.
-#[inline(always)]
 #[tactic(auto, using(crate::proofs::CountLemmas::of_query))]
 pub fn count_request(
     counters: &mut Counters,
@@ -81,9 +113,31 @@ fn count_rare(counters: &mut Counters, number: u16)
     counters.add(Counter::Question(Qtype::of(number)));
 }
 
+/// Counts a reply as [`count_reply`] does, where it is that to a query, isn't truncated, and has the RCODE NOERROR or NXDOMAIN with an answer or an authority, as most are: whether
+/// it is. Nothing is counted of any other.
+#[inline(always)]
+pub(crate) fn count_plain_reply(counters: &mut Counters, reply: &[u8]) -> bool
+    ensures counted { result ≡ true → counters.new ≡ with_counts (reply_counts reply.now) counters.old }
+    ensures query { result ≡ true → opcode_of reply.now ≡ 0 }
+    ensures not { result ≡ false → counters.new ≡ counters.old }
+{
+    if reply.len() < HEADER || opcode_of(reply) != QUERY || is_truncated(reply) {
+        return false;
+    }
+    if number_at(reply, ANCOUNT) == 0 && number_at(reply, NSCOUNT) == 0 {
+        return false;
+    }
+    match low_code(reply) {
+        0 => counters.add(Counter::Reply(Rcode::NoError)),
+        3 => counters.add(Counter::Reply(Rcode::NxDomain)),
+        _ => return false,
+    }
+    counters.add_many(Counter::SentOctets, reply.len() as u64);
+    true
+}
+
 /// Counts a reply of one message, or the first message of one: by its RCODE, of an update also as that, whether it is truncated, and its
 /// octets. Whether it is a reply to an update.
-#[inline(always)]
 pub fn count_reply(counters: &mut Counters, reply: &[u8]) -> bool
     ensures counts { counters.new ≡ with_counts (reply_counts reply.now) counters.old }
     ensures update { result ≡ (opcode_of reply.now == 5) }

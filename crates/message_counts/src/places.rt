@@ -1,5 +1,5 @@
 //! What octets say at their places.
-ghost use Rattle.std.specs.Prelude.{◌≡◌, ◌<◌, ◌≤◌, ◌==◌, ◌^◌, ◌+◌, ◌*◌, length, drop, slice_index, IfSome};
+ghost use Rattle.std.specs.Prelude.{◌≡◌, ◌⊎◌, ◌<◌, ◌≤◌, ◌==◌, ◌^◌, ◌+◌, ◌*◌, ◌%◌, length, drop, slice_index, Some, IfSome};
 ghost use Rattle.message_counts.specs.Places.{octet_at, is_reply, opcode_of, is_truncated, number_at, name_end, first_name_end, pair_at, ends_with_opt, named_type, question_type, rcode_of, high_code, opt_code, opt_code_after};
 
 /// Where a header counts its questions (RFC 1035, 4.1.1).
@@ -9,7 +9,7 @@ pub(crate) const QDCOUNT: usize = 4;
 pub(crate) const ANCOUNT: usize = 6;
 
 /// Where a header counts the records of its authority section (RFC 1035, 4.1.1).
-const NSCOUNT: usize = 8;
+pub(crate) const NSCOUNT: usize = 8;
 
 /// A count of 1, and then one of 0.
 const ONE: u32 = 65_536;
@@ -128,7 +128,6 @@ fn named_type(octets: &[u8]) -> Option<u16>
 
 /// The type of the first question (RFC 1035, 4.1.2). A question alone has it four octets before the message's end, and one before an OPT without options fifteen; any other is
 /// looked for after its name. None where there is no question, or it can't be read.
-#[inline(always)]
 pub fn question_type(octets: &[u8]) -> Option<u16>
     ensures { result ≡ question_type octets.now }
 {
@@ -150,13 +149,42 @@ pub fn question_type(octets: &[u8]) -> Option<u16>
     named_type(octets)
 }
 
+/// The type of a question at a message's end, as [`question_type`] has it; 0, which is no type of a record, where it isn't there (RFC 6895, 3.1).
+#[inline(always)]
+pub(crate) fn type_at_end(octets: &[u8]) -> u16
+    ensures { result ≡ 0 ⊎ question_type octets.now ≡ Some result }
+{
+    let len = octets.len();
+    if len <= 16 || pair_at(octets, QDCOUNT) != ONE {
+        return 0;
+    }
+    let more = pair_at(octets, NSCOUNT);
+    if more > 1 {
+        return 0;
+    }
+    if more == 0 {
+        return number_at(octets, len - 4);
+    }
+    if len > 27 && ends_with_opt(octets) {
+        return number_at(octets, len - 15);
+    }
+    0
+}
+
+/// The four bits of the RCODE that a header has (RFC 1035, 4.1.1).
+#[inline(always)]
+pub(crate) fn low_code(octets: &[u8]) -> u8
+    ensures { result ≡ octet_at octets.now 3 % 16 }
+{
+    octet_at(octets, 3) % 16
+}
+
 /// The RCODE: the four bits of the header (RFC 1035, 4.1.1), and of a message without answers and authorities the eight bits above them in
 /// an OPT that comes next after the first question (RFC 6891, 6.1.3).
-#[inline(always)]
 pub fn rcode_of(octets: &[u8]) -> u16
     ensures { result ≡ rcode_of octets.now }
 {
-    16 * u16::from(high_code(octets)) + u16::from(octet_at(octets, 3) % 16)
+    16 * u16::from(high_code(octets)) + u16::from(low_code(octets))
 }
 
 /// The upper eight bits of an RCODE, which an OPT has; 0 where there is none.

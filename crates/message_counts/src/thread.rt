@@ -1,11 +1,11 @@
 //! What a thread counts of the requests that it takes and of the replies that it sends.
-ghost use Rattle.std.specs.Prelude.{◌≡◌, Some};
+ghost use Rattle.std.specs.Prelude.{◌≡◌, Some, None};
 ghost use Rattle.counters.specs.Counters.{no_counters, with_counts, with_more};
 ghost use Rattle.counters.specs.declared.counter.Counter.TheVariants.{Dropped, Reply};
 ghost use Rattle.counters.specs.declared.rcode.Rcode.TheVariants.{NoError};
 ghost use Rattle.message_counts.specs.Counts.{queried_type, reply_counts, request_counts, transfer_asked, transfer_counts};
 
-use crate::count::{UPDATE, count_reply, count_request};
+use crate::count::{UPDATE, count_address_query, count_plain_reply, count_reply, count_request};
 use crate::places::{id_of, is_reply, opcode_of};
 use crate::transfers::{asks_transfer, transfer_of};
 use counters::{AddressFamily, Counter, Counters, Rcode, SharedCounters, Transport};
@@ -91,16 +91,28 @@ impl<'a, C: Clock> ThreadCounts<'a, C> {
         ensures counters { self.new.counters ≡ with_counts (request_counts transport family request.now) self.old.counters }
         ensures transfer { self.new.transfer ≡ transfer_asked (queried_type request.now) }
     {
-        let qtype = count_request(&mut self.counters, transport, family, request);
+        let is_counted = count_address_query(&mut self.counters, transport, family, request);
         self.transfer = None;
+        let is_query = is_counted || self.take_other(transport, family, request);
+        self.left = self.left.wrapping_sub(1);
+        if self.left == 0 {
+            self.show();
+        }
+        is_query
+    }
+
+    /// Counts any request, whose reply is to be counted as one for no transfer so far.
+    #[inline(never)]
+    fn take_other(&mut self, transport: Transport, family: AddressFamily, request: &[u8]) -> bool
+        requires { self.old.transfer ≡ None }
+        ensures counters { self.new.counters ≡ with_counts (request_counts transport family request.now) self.old.counters }
+        ensures transfer { self.new.transfer ≡ transfer_asked (queried_type request.now) }
+    {
+        let qtype = count_request(&mut self.counters, transport, family, request);
         if let Some(number) = qtype {
             if asks_transfer(number) {
                 self.transfer = Some(number);
             }
-        }
-        self.left = self.left.wrapping_sub(1);
-        if self.left == 0 {
-            self.show();
         }
         qtype.is_some()
     }
@@ -108,6 +120,17 @@ impl<'a, C: Clock> ThreadCounts<'a, C> {
     /// Counts the reply to the request that was counted last: a message, the first one of several, or the only one. Whether it is a reply to an update.
     #[inline(always)]
     pub fn give(&mut self, reply: &[u8]) -> bool
+        ensures { self.new.counters ≡ with_counts (transfer_counts self.old.transfer reply.now) (with_counts (reply_counts reply.now) self.old.counters) }
+    {
+        if self.transfer.is_none() && count_plain_reply(&mut self.counters, reply) {
+            return false;
+        }
+        self.give_any(reply)
+    }
+
+    /// Counts any reply.
+    #[inline(never)]
+    fn give_any(&mut self, reply: &[u8]) -> bool
         ensures { self.new.counters ≡ with_counts (transfer_counts self.old.transfer reply.now) (with_counts (reply_counts reply.now) self.old.counters) }
     {
         let is_update = count_reply(&mut self.counters, reply);
@@ -118,7 +141,6 @@ impl<'a, C: Clock> ThreadCounts<'a, C> {
     }
 
     /// Counts what a request for a transfer got, by its type and its reply's first message.
-    #[inline(never)]
     fn give_transfer(&mut self, qtype: u16, reply: &[u8])
         ensures { self.new.counters ≡ with_counts (transfer_counts (Some qtype) reply.now) self.old.counters }
     {
