@@ -293,8 +293,8 @@ fn serve_with_engine<
     }
 }
 
-/// Makes the jobs of the threads, serves the versions of a server's cell, as [`serve_with_updates`] does, and takes the server apart. The cell's publisher comes back, and all
-/// readers in `readers`, which has room for two more. Fails with `NoMemory` or `Device` where a job can't be made.
+/// Serves the versions of a server's cell, as [`serve_with_updates`] does, and takes the server apart. The cell's publisher comes back, and all readers in `readers`, which
+/// has room for two more.
 fn serve_with_server<
     R: Net + Threads + Wait + Clock + Sync,
     Z: FirstZone + Send + Sync,
@@ -317,49 +317,50 @@ fn serve_with_server<
     requires room { vec_len readers.old + 1 < vec_capacity readers.old }
     ensures { vec_len readers.new ≡ vec_len readers.old + 2 }
 {
-    let shutdown = plan.shutdown;
-    let served = match jobs_of(rt, alloc, specs, plan, context.updates) {
-        Ok(jobs) => serve_with_updates(
-            rt, alloc, &server, shutdown, context, reader, right, readers, jobs, log,
-        ),
-        Err(fault) => {
-            readers.push_reserved(reader);
-            Err(fault)
-        }
-    };
+    let served = serve_with_updates(
+        rt, alloc, &server, plan, context, reader, right, readers, specs, log,
+    );
     let (publisher, own) = server.finish();
     readers.push_reserved(own);
     (served, publisher)
 }
 
-/// Serves the versions of a server's cell, by jobs with `readers`, and the update thread with `reader`. All readers come back in `readers`, which has room for one more.
-/// Fails with `NoMemory` where the update thread can't be made, and else as [`serve_on_threads`] does.
+/// Makes the jobs of the threads, and serves the versions of a server's cell by these with `readers`, and the update thread with `reader`. All readers come back in `readers`,
+/// which has room for one more. Fails with `NoMemory` or `Device` where a job can't be made, with `NoMemory` where the update thread can't, and else as [`serve_on_threads`]
+/// does.
 fn serve_with_updates<
     'g,
     's,
-    R: Threads + Wait + Clock + Sync,
+    R: Net + Threads + Wait + Clock + Sync,
     Z: FirstZone + Send + Sync,
     N: ServerName + Send + Sync,
     L: ServiceLog + Sync,
     S: UpdateStore,
 >(
-    rt: &R,
+    rt: &'g R,
     alloc: Global,
     server: &'g Server<'s, Z, N>,
-    shutdown: &'g Shutdown,
+    plan: Plan<'g>,
     context: UpdateContext<'g, R, S>,
     reader: VersionReader<N>,
     right: PublishRight<N>,
     readers: &mut Vec<VersionReader<N>>,
-    jobs: Vec<SocketJob<'g, R>>,
+    specs: Vec<ThreadSpec<'g>>,
     log: &'g L,
 ) -> Result<(), ServeFault>
-    requires count { vec_len readers.old ≡ vec_len jobs }
+    requires count { vec_len readers.old ≡ vec_len specs }
     requires room { vec_len readers.old < vec_capacity readers.old }
     ensures count { vec_len readers.new ≡ vec_len readers.old + 1 }
     ensures room { vec_capacity readers.new ≡ vec_capacity readers.old }
 {
-    let updates = context.updates;
+    let (shutdown, updates) = (plan.shutdown, context.updates);
+    let jobs = match jobs_of(rt, alloc, specs, plan, updates) {
+        Ok(jobs) => jobs,
+        Err(fault) => {
+            readers.push_reserved(reader);
+            return Err(fault);
+        }
+    };
     match judge_for(rt, alloc, server, shutdown, context, reader, right, log) {
         Ok(judge) => serve_with_judge(
             rt, alloc, server, shutdown, updates, judge, readers, jobs, log,
