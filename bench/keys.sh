@@ -183,8 +183,12 @@ for round in $(seq "$rounds"); do
                 one_run updates "$name" "$kind" -u -d "$work/updates"
             fi
         done
-        if [ "$round $name" = "1 dnsd" ] && { [ -z "$only" ] || [ "$only" = shares ]; } && command -v perf >/dev/null; then
-            for kind in sha256 sha512; do shares "$kind"; done
+        if [ "$round $name" = "1 dnsd" ] && { [ -z "$only" ] || [ "$only" = shares ]; }; then
+            if command -v perf >/dev/null; then
+                for kind in sha256 sha512; do shares "$kind"; done
+            else
+                echo "bench: no perf, for the part of SHA-2: it needs Debian's linux-perf" >&2
+            fi
         fi
         stop
     done

@@ -98,23 +98,27 @@ questions() {
             done
         done
         check "$tool, a reply that isn't in the zone" "REFUSED signed verified" "$(verified $tool "$up" host.example.net. A)"
-        check "$tool axfr by who may" "14 records, verified" "$(transferred $tool "$xfr" "$d" axfr)"
+        for key in "$xfr" "$xfr2"; do
+            check "$tool axfr by who may, ${key%:*}" "14 records, verified" "$(transferred $tool "$key" "$d" axfr)"
+            check "$tool ixfr by who may, ${key%:*}" "14 records, verified" "$(transferred $tool "$key" "$d" ixfr=0)"
+        done
         check "$tool axfr by who may by key and address" "14 records, verified" "$(transferred $tool "$both" "$d" axfr)"
-        check "$tool ixfr by who may" "14 records, verified" "$(transferred $tool "$xfr" "$d" ixfr=0)"
     done
     check "kdig axfr by a key that may only update" REFUSED "$(kdig @127.0.0.1 -p "$port" -y "$up" "$d" axfr 2>&1 | grep -o REFUSED | head -1)"
     check "kdig axfr by a key from another address" REFUSED "$(kdig @127.0.0.1 -p "$port" -y "$far" "$d" axfr 2>&1 | grep -o REFUSED | head -1)"
     check "kdig axfr unsigned" REFUSED "$(kdig @127.0.0.1 -p "$port" "$d" axfr 2>&1 | grep -o REFUSED | head -1)"
 }
 
-# What a request that isn't signed as it should be gets: the code, and the error in the reply's TSIG. The kind is one of key, secret, clock, short.
+# What a request that isn't signed as it should be gets: the code, and the error in the reply's TSIG: PORT udp|tcp key|secret|clock|short sha256|sha512
 refusal() {
-    "$python" - "$1" "$2" "$3" "$d" "$s1" "$s3" <<'end'
+    local key=up.key secret=$s1
+    [ "$4" = sha256 ] || key=up2.key secret=$s2
+    "$python" - "$1" "$2" "$3" "hmac-$4" "$key" "$d" "$secret" "$s3" <<'end'
 import socket, struct, sys, time
 import dns.message, dns.name, dns.query, dns.rcode, dns.tsig
-port, over, kind, zone, secret, other = int(sys.argv[1]), *sys.argv[2:]
-name = "unknown.key." if kind == "key" else "up.key."
-key = dns.tsig.Key(name, other if kind == "secret" else secret, "hmac-sha256")
+port, over, kind, algorithm, name, zone, secret, other = int(sys.argv[1]), *sys.argv[2:]
+spelt = bytes([len(algorithm)]) + algorithm.encode() + b"\0"
+key = dns.tsig.Key("unknown.key." if kind == "key" else name, other if kind == "secret" else secret, algorithm)
 message = dns.message.make_query(zone, "SOA")
 message.flags = 0
 message.use_tsig(key)
@@ -125,10 +129,12 @@ wire = message.to_wire()
 time.time = real
 if kind == "short":
     # before the algorithm's name stands the data's length; after it the time, the fudge, and the MAC's size; the MAC is cut to its half
-    name = wire.index(b"\x0bhmac-sha256\0")
-    at = name + 13
-    wire = (wire[:name - 2] + struct.pack("!H", struct.unpack("!H", wire[name - 2:name])[0] - 16) + wire[name:at + 8]
-            + struct.pack("!H", 16) + wire[at + 10:at + 26] + wire[at + 42:])
+    name = wire.index(spelt)
+    at = name + len(spelt)
+    whole = struct.unpack("!H", wire[at + 8:at + 10])[0]
+    half = whole // 2
+    wire = (wire[:name - 2] + struct.pack("!H", struct.unpack("!H", wire[name - 2:name])[0] - half) + wire[name:at + 8]
+            + struct.pack("!H", half) + wire[at + 10:at + 10 + half] + wire[at + 10 + whole:])
 if over == "udp":
     s = socket.socket(socket.AF_INET, socket.SOCK_DGRAM)
     s.settimeout(5)
@@ -141,10 +147,11 @@ else:
     reply = s.recv(size, socket.MSG_WAITALL)
 # read without verifying: the error, and the size of the MAC
 rcode = dns.rcode.to_text(reply[3] & 15)
-at = reply.find(b"\x0bhmac-sha256\0") + 13
-if at < 13:
+at = reply.find(spelt)
+if at < 0:
     print(rcode, "without a TSIG")
     sys.exit()
+at += len(spelt)
 mac = struct.unpack("!H", reply[at + 8:at + 10])[0]
 error = struct.unpack("!H", reply[at + 12 + mac:at + 14 + mac])[0]
 print(rcode, {16: "BADSIG", 17: "BADKEY", 18: "BADTIME", 22: "BADTRUNC"}.get(error, error), "signed" if mac else "unsigned")
@@ -153,20 +160,22 @@ end
 
 # Requests that aren't signed as they should be, and those of BIND beside them.
 refusals() {
-    local over kind
+    local over kind by
     serve_bind
-    for over in udp tcp; do
-        check "$over, an unknown key" "NOTAUTH BADKEY unsigned" "$(refusal "$port" $over key)"
-        check "$over, another secret" "NOTAUTH BADSIG unsigned" "$(refusal "$port" $over secret)"
-        check "$over, ten minutes ago" "NOTAUTH BADTIME signed" "$(refusal "$port" $over clock)"
-        check "$over, half a MAC" "NOTAUTH BADTRUNC signed" "$(refusal "$port" $over short)"
-        for kind in key secret clock short; do
-            check "$over, $kind, as BIND" "$(refusal $((port + 4)) $over $kind)" "$(refusal "$port" $over $kind)"
+    for by in sha256 sha512; do
+        for over in udp tcp; do
+            check "$over, an unknown key, $by" "NOTAUTH BADKEY unsigned" "$(refusal "$port" $over key $by)"
+            check "$over, another secret, $by" "NOTAUTH BADSIG unsigned" "$(refusal "$port" $over secret $by)"
+            check "$over, ten minutes ago, $by" "NOTAUTH BADTIME signed" "$(refusal "$port" $over clock $by)"
+            check "$over, half a MAC, $by" "NOTAUTH BADTRUNC signed" "$(refusal "$port" $over short $by)"
+            for kind in key secret clock short; do
+                check "$over, $kind, $by, as BIND" "$(refusal $((port + 4)) $over $kind $by)" "$(refusal "$port" $over $kind $by)"
+            done
         done
     done
 }
 
-# BIND as a server of the zone, with one of the keys.
+# BIND as a server of the zone, with two of the keys.
 serve_bind() {
     mkdir -p "$work/bind"
     cp zones/example.test.zone "$work/bind/zone"
@@ -175,7 +184,8 @@ options { directory "$work/bind"; listen-on port $((port + 4)) { 127.0.0.1; }; l
     session-keyfile none; allow-query { any; }; dnssec-validation no; };
 controls { };
 key "up.key" { algorithm hmac-sha256; secret "$s1"; };
-zone "example.test" { type primary; file "zone"; allow-update { key up.key; }; };
+key "up2.key" { algorithm hmac-sha512; secret "$s2"; };
+zone "example.test" { type primary; file "zone"; allow-update { key up.key; key up2.key; }; };
 end
     named -g -c "$work/bind/named.conf" >"$work/bind/log" 2>&1 &
     started+=($!)
@@ -224,9 +234,23 @@ updates() {
             check "$tool $over, then $1" "" "$(held "$port" "no.$d")"
         done
     done
+    printf 'key "up2.key" { algorithm hmac-sha512; secret "%s"; };\n' "$s2" >"$work/up2"
+    check "nsupdate -k, hmac-sha512 $1" NOERROR "$(sent nsupdate -k "$work/up2" <<<"update add file2.$d 60 A 192.0.2.98")"
+    check "nsupdate -k, hmac-sha512 $1, then" "192.0.2.98 " "$(held "$port" "file2.$d")"
     printf 'key "up.key" { algorithm hmac-sha256; secret "%s"; };\n' "$s1" >"$work/up"
     check "nsupdate -k $1" NOERROR "$(sent nsupdate -k "$work/up" <<<"update add file.$d 60 A 192.0.2.99")"
     check "nsupdate -k $1, then" "192.0.2.99 " "$(held "$port" "file.$d")"
+}
+
+# The last of these changes by an IXFR: the zone's SOA, the one before, the zone's, what is added, and the zone's.
+last_change() {
+    local tool key serial
+    serial=$(serial_at "$port")
+    for tool in dig kdig; do
+        for key in "$xfr" "$xfr2"; do
+            check "$tool ixfr of the last change, ${key%:*} $1" "5 records, verified" "$(transferred $tool "$key" "$d" ixfr=$((serial - 1)))"
+        done
+    done
 }
 
 # The zone that a server holds, in order.
@@ -325,6 +349,11 @@ end
     started+=($!)
 }
 
+# Whether a line of a secondary's log is of this form: FOLDER FORM
+has_line() {
+    grep -qE "$2" "$work/$1/log" && echo yes || echo no
+}
+
 # Secondaries by their key alone: a transfer in whole, and each change once they are notified: NAME ALGORITHM SECRET
 follow() {
     local place names=(BIND Knot NSD) serial secondaries=()
@@ -341,6 +370,14 @@ follow() {
     for place in 1 2 3; do
         check "${names[place - 1]}, $2, after a NOTIFY that is signed" "$(zone_at "$port" -y "$xfr")" "$(zone_at $((port + place)))"
     done
+    check "BIND, $2, has the NOTIFY by its key" yes "$(has_line b "received notify for zone 'example.test': TSIG '$1'")"
+    # that each takes no other
+    check "Knot, $2, has the NOTIFY" yes "$(has_line k "notify, incoming, .*serial $serial")"
+    check "NSD, $2, has the NOTIFY" yes "$(has_line n "notify for $d .*serial $serial")"
+    check "BIND, $2, has the change by IXFR" yes "$(has_line b 'Transfer completed: 1 messages, 5 records')"
+    check "Knot, $2, has the change by IXFR" yes "$(has_line k 'IXFR, incoming, .*finished')"
+    check "NSD, $2, has the change by IXFR" yes "$(grep -oE "serial $serial .* TSIG verified with key $1 of [0-9]+ bytes|of [0-9]+ bytes" "$work/n/log" |
+        awk '/verified/ { last = $(NF - 1) } { first = first ? first : $(NF - 1) } END { print (last && last + 0 < first + 0 ? "yes" : "no") }')"
     sleep 3
     check "the secondaries answer NOTIFY, $2" "" "$(grep 'does not answer NOTIFY' "$work/dnsd.log" || true)"
     for pid in "${started[@]}"; do kill "$pid" 2>/dev/null || true; done
@@ -364,6 +401,7 @@ serve zones/example.test.zone --keys "$work/keys" "${rules[@]}"
 questions
 refusals
 updates "without a store"
+last_change "without a store"
 check "no secret in the log" "" "$(grep -F -e "$s1" -e "$s2" -e "$s3" "$work/dnsd.log" || true)"
 check "the log has an unknown key" yes "$(grep -q 'signed with key unknown.key.*BADKEY' "$work/dnsd.log" && echo yes || echo no)"
 unserve
@@ -371,6 +409,7 @@ unserve
 mkdir "$work/store"
 serve zones/example.test.zone --keys "$work/keys" "${rules[@]}" --store "$work/store"
 updates "with a store"
+last_change "with a store"
 unserve
 
 if [ $secondaries = yes ]; then

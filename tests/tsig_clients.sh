@@ -1,11 +1,12 @@
 #!/usr/bin/env bash
 # Tries a running `dnsd serve --keys` by dnspython and by drill, with keys of hmac-sha256 and hmac-sha512 (RFC 8945): queries, updates and transfers over
 # UDP and TCP, whose replies dnspython verifies, and transfers by drill, which signs nothing else. Then keys that aren't known or are of another
-# algorithm, other secrets, and a clock that is ten minutes fast: what the client reports is what it reports of BIND. It prints a line a check and a
-# count, and its status is 1 where one failed. It listens on 127.0.0.1 alone, and ends what it starts.
+# algorithm, other secrets, and a clock that is ten minutes fast: what these two, dig, kdig, nsupdate and knsupdate report is what they report of BIND
+# (dig and nsupdate don't run by faketime). It prints a line a check and a count, and its status is 1 where one failed. It listens on 127.0.0.1 alone,
+# and ends what it starts.
 # Usage: [DNSD=PROGRAM] tests/tsig_clients.sh [--port N]
 #   --port N    dnsd listens on N (by default 15423), BIND on the next
-# It needs Debian's packages bind9, python3-dnspython, ldnsutils and faketime, and the program that `make dnsd` builds.
+# It needs Debian's packages bind9, bind9-dnsutils, knot-dnsutils, python3-dnspython, ldnsutils and faketime, and the program that `make dnsd` builds.
 set -euo pipefail
 cd "$(dirname "$0")/.."
 program=${DNSD:-$PWD/crates/dnsd/out/dnsd}
@@ -19,7 +20,7 @@ done
 PATH=$PATH:/usr/sbin:/sbin
 . tests/asking.sh
 . tests/contrib.sh
-need "bind9, ldnsutils and faketime" named drill faketime
+need "bind9, bind9-dnsutils, knot-dnsutils, ldnsutils and faketime" named dig nsupdate kdig knsupdate drill faketime
 # Debian packages dnspython for its own Python
 /usr/bin/python3 -c 'import dns.tsig' 2>/dev/null || { echo "tsig_clients.sh: no dnspython: it needs Debian's python3-dnspython" >&2; exit 2; }
 
@@ -71,6 +72,15 @@ drills() {
         END { print (code ? code error : n " records") }'
 }
 
+# What a tool reports of a request that is refused, each word once: dig|kdig|nsupdate|knsupdate PORT KEY ALGORITHM SECRET
+reports() {
+    local key=$4:$3:$5
+    case $1 in
+        dig | kdig) "${fast[@]}" "$1" @127.0.0.1 -p "$2" -y "$key" +retry=0 +time=5 "$d" SOA ;;
+        *) printf '%s\n' "server 127.0.0.1 $2" "zone $d" "update add new.$d 60 A 192.0.2.7" send | "${fast[@]}" "$1" -y "$key" ;;
+    esac 2>&1 | grep -oE 'NOERROR|REFUSED|NOTAUTH|BAD[A-Z]+|verify (TSIG|signature)|out of time window|indicates error' | uniq | paste -sd ' '
+}
+
 # BIND, which has the same zone and keys.
 serve_bind() {
     mkdir -p "$work/bind"
@@ -102,7 +112,13 @@ taken() {
 
 # What should be refused, as BIND does: WHAT REPORT-OF-DNSPYTHON REPORT-OF-DRILL NAME ALGORITHM SECRET
 refused() {
-    local action over
+    local action over tool told tools="dig kdig nsupdate knsupdate"
+    [ ${#fast[@]} = 0 ] || tools="kdig knsupdate"
+    for tool in $tools; do
+        told=$(reports "$tool" "$port" "${@:4}")
+        check "$tool, $5, $1" "$(sed 's/^PEER//; s/NATURE$//' <<<"${2^^}")" "$(grep -oE 'BAD[A-Z]+' <<<"$told" | head -1)"
+        check "$tool, $5, $1, as BIND" "$(reports "$tool" "$other" "${@:4}")" "$told"
+    done
     for over in udp tcp; do
         for action in query update; do
             check "dnspython, $5, $1, $action over $over" "$2" "$(dnspython "$port" "${@:4}" $over $action new)"

@@ -1,8 +1,9 @@
 #!/usr/bin/env python3
 """Sends mutated signed requests to a running `dnsd serve --keys`, over UDP: queries and updates that are signed, with octets turned, cut off, put in and doubled, counts and sizes that
 are wrong, and TSIGs of other requests. A request that gets a reply whose TSIG has a MAC and no error must be one whose own MAC is right, by the model here, which
-knows HMAC by Python's library alone (RFC 8945, 4.3 and 5.2); and one whose MAC is right must get such a reply. A zone that is changed by no update whose
-MAC isn't right: the serial goes by those that the model takes. In the end the server has the memory that it had, but for what updates put in. It is no part of the gate.
+knows HMAC by Python's library alone (RFC 8945, 4.3 and 5.2); and one whose MAC is right must get such a reply. The zone is changed by no update whose
+MAC isn't right: where none of 64 requests is an update whose MAC is right, the serial after them is the one before them, and each other turn has none. In the
+end the server has the memory that it had, but for what updates put in. It is no part of the gate.
 
 Usage: [DNSD=PROGRAM] tests/tsig_mutate.py [--requests N] [--seed N] [--port N], by default 1,000,000 requests. Its status is 1 where something was wrong."""
 import argparse
@@ -148,6 +149,19 @@ def is_taken(reply):
     return False
 
 
+def is_update(octets):
+    """Whether a request's OPCODE is UPDATE's."""
+    return octets[2] >> 3 & 15 == 5
+
+
+def serial_in(reply):
+    """The serial of a reply to a question for the zone's SOA."""
+    at = name_at(reply, 12)[1] + 4
+    at = name_at(reply, at)[1] + 10
+    at = name_at(reply, at)[1]
+    return struct.unpack("!I", reply[name_at(reply, at)[1] :][:4])[0]
+
+
 def requests_at(now):
     """Signed queries and updates, of both keys."""
     question = struct.pack("!HHHHHH", 0, 0, 1, 0, 0, 0) + b"\x03www" + ZONE + struct.pack("!HH", 1, 1)
@@ -178,15 +192,24 @@ def serve(folder):
     raise SystemExit("tsig_mutate: dnsd doesn't listen")
 
 
+def drawn(chance, signed, place, now, is_quiet):
+    """A mutated request with this ID, and whether its MAC is right; none that is an update and right, where it's to be quiet."""
+    while True:
+        octets = struct.pack("!H", place) + mutated(chance, chance.choice(signed), signed)[2:]
+        is_ok = is_right(octets, now)
+        if not (is_quiet and is_ok and is_update(octets)):
+            return octets, is_ok
+
+
 def main():
     chance = random.Random(given.seed)
-    wrong, right, taken, lost = 0, 0, 0, 0
+    wrong, right, taken, lost, quiet = 0, 0, 0, 0, 0
     with tempfile.TemporaryDirectory() as folder:
         server = serve(folder)
         client = socket.socket(socket.AF_INET, socket.SOCK_DGRAM)
         client.connect(("127.0.0.1", given.port))
         client.settimeout(10)
-        signed, at, first = [], 0, None
+        signed, at, first, serial = [], 0, None, None
         try:
             for turn in range(0, given.requests, 64):
                 now = int(time.time())
@@ -194,11 +217,11 @@ def main():
                     signed, at = requests_at(now), now
                 # IDs of its own, so that no reply to an earlier turn is taken for one of this
                 start = turn * 2 % 65536
+                is_quiet = turn // 64 % 2 == 1
                 sent = {}
                 for place in range(start, start + 64):
-                    octets = mutated(chance, chance.choice(signed), signed)
-                    octets = struct.pack("!H", place) + octets[2:]
-                    sent[place] = octets
+                    octets, is_ok = drawn(chance, signed, place, now, is_quiet)
+                    sent[place] = octets, is_ok
                     client.send(octets)
                 # a plain query ends the turn
                 end = start + 64
@@ -211,8 +234,14 @@ def main():
                         lost += 1
                         break
                     replies[reply[0] << 8 | reply[1]] = reply
-                for place, octets in sent.items():
-                    is_ok, is_signed = is_right(octets, now), is_taken(replies.get(place, b""))
+                before, serial = serial, serial_in(replies[end]) if end in replies else None
+                if is_quiet and None not in (before, serial):
+                    quiet += serial == before
+                    if serial != before:
+                        wrong += 1
+                        print(f"the serial goes from {before} to {serial} by: {' '.join(octets.hex() for octets, _ in sent.values())}")
+                for place, (octets, is_ok) in sent.items():
+                    is_signed = is_taken(replies.get(place, b""))
                     right, taken = right + is_ok, taken + is_signed
                     if is_ok != is_signed and (is_signed or place in replies):
                         wrong += 1
@@ -226,7 +255,7 @@ def main():
         finally:
             server.terminate()
             server.wait()
-    print(f"{given.requests} requests, {right} with a right MAC, {taken} taken, {wrong} wrong, {lost} turns without an end, memory {(first or last) >> 10} KiB after 6,400 and {last >> 10} KiB at the end")
+    print(f"{given.requests} requests, {right} with a right MAC, {taken} taken, {wrong} wrong, {lost} turns without an end, {quiet} turns without an update that left the serial as it was, memory {(first or last) >> 10} KiB after 6,400 and {last >> 10} KiB at the end")
     return 1 if wrong or not alive or grown > SLACK else 0
 
 
