@@ -192,6 +192,17 @@ def serve(folder):
     raise SystemExit("tsig_mutate: dnsd doesn't listen")
 
 
+def are_there(client, replies, wanted):
+    """Receives replies until those with these IDs are there; returns whether they come."""
+    while not wanted <= replies.keys():
+        try:
+            reply = client.recv(65535)
+        except socket.timeout:
+            return False
+        replies[reply[0] << 8 | reply[1]] = reply
+    return True
+
+
 def drawn(chance, signed, place, now, is_quiet):
     """A mutated request with this ID, and whether its MAC is right; none that is an update and right, where it's to be quiet."""
     while True:
@@ -223,17 +234,11 @@ def main():
                     octets, is_ok = drawn(chance, signed, place, now, is_quiet)
                     sent[place] = octets, is_ok
                     client.send(octets)
-                # a plain query ends the turn
-                end = start + 64
+                # the replies to updates come from another thread; once they are there, a plain query ends the turn
+                end, replies = start + 64, {}
+                lost += not are_there(client, replies, {place for place, (_, is_ok) in sent.items() if is_ok})
                 client.send(struct.pack("!HHHHHH", end, 0, 1, 0, 0, 0) + ZONE + struct.pack("!HH", 6, 1))
-                replies = {}
-                while end not in replies:
-                    try:
-                        reply = client.recv(65535)
-                    except socket.timeout:
-                        lost += 1
-                        break
-                    replies[reply[0] << 8 | reply[1]] = reply
+                lost += not are_there(client, replies, {end})
                 before, serial = serial, serial_in(replies[end]) if end in replies else None
                 if is_quiet and None not in (before, serial):
                     quiet += serial == before
@@ -255,7 +260,7 @@ def main():
         finally:
             server.terminate()
             server.wait()
-    print(f"{given.requests} requests, {right} with a right MAC, {taken} taken, {wrong} wrong, {lost} turns without an end, {quiet} turns without an update that left the serial as it was, memory {(first or last) >> 10} KiB after 6,400 and {last >> 10} KiB at the end")
+    print(f"{given.requests} requests, {right} with a right MAC, {taken} taken, {wrong} wrong, {lost} waits in vain, {quiet} turns without an update that left the serial as it was, memory {(first or last) >> 10} KiB after 6,400 and {last >> 10} KiB at the end")
     return 1 if wrong or not alive or grown > SLACK else 0
 
 
