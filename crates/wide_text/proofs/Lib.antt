@@ -1,11 +1,13 @@
 pub mod EuiLemmas
 pub mod FieldLemmas
+pub mod ItemLemmas
 pub mod KeyedLemmas
 pub mod LocationLemmas
 pub mod ParamLemmas
 pub mod PlainFront
 pub mod PlainLemmas
 pub mod QuoteLemmas
+pub mod ReadBackLemmas
 pub mod RestLemmas
 pub mod WordLemmas
 pub mod WriteLemmas
