@@ -7,7 +7,6 @@ pub mod ParamLemmas
 pub mod PlainFront
 pub mod PlainLemmas
 pub mod QuoteLemmas
-pub mod ReadBackLemmas
 pub mod RestLemmas
 pub mod WordLemmas
 pub mod WriteLemmas
