@@ -15,7 +15,7 @@ use Rattle.record_text.specs.Data.{as_data, data_of_words}
 use Rattle.record_text.specs.Front.{Front}
 use Rattle.record_text.specs.Generic.{are_generic}
 use Rattle.record_text.specs.Mnemonics.{class_named, class_of, type_named, type_numbered, type_word}
-use Rattle.record_text.specs.Number.{is_number, number_of}
+use Rattle.record_text.specs.Number.{are_digits}
 use Rattle.record_text.specs.Reading.{on_ok, and_then}
 use Rattle.record_text.specs.Text.{text_of_words, words_of}
 use Rattle.record_text.specs.declared.cause.Cause.{Cause}
@@ -47,7 +47,7 @@ use Rattle.wide_text.specs.Times.{is_time, ttl_of}
 use Rattle.wide_text.specs.Words.{wide_type_word, wide_words, word_in_form, words_by, words_in_form}
 use Rattle.wide_text.specs.declared.front.Mark.{Mark}
 use Rattle.wide_text.specs.declared.front.Mark.TheVariants as mark
-use Rattle.wide_text.proofs.PlainLemmas.{number_is_time, plain_data_is_wide}
+use Rattle.wide_text.proofs.PlainLemmas.{plain_data_is_wide}
 use Rattle.wide_text.proofs.RestLemmas.{AreBack, fields_back}
 use Rattle.wide_file.specs.Included.{Files, included_to, max_depth, entries_read}
 use Rattle.wide_file.specs.PlainText.{put_all, unwritten}
@@ -97,13 +97,15 @@ own form h = own_by form (wide_type_named form.word) (is_signing form.rtype) ref
 abbrev IsOf : ℕ → Form → Type 0
 IsOf rtype form = IsOwn form × (form.rtype ≡ rtype)
 
+found_by : (rtype : ℕ) (form : Form) (more : Option Form) (b : Bool) → (form.rtype == rtype) ≡ b → IsOwn form → IfSome more (IsOf rtype) → IfSome (cond b (Some form) more) (IsOf rtype)
+found_by rtype form more true e is others = (is, (Decides-eqb form.rtype rtype).0 e)
+found_by rtype form more false e is others = others
+
 found_in : (rtype : ℕ) (all : List Form) → list_all is_own all ≡ true → IfSome (find (λ form. form.rtype == rtype) all) (IsOf rtype)
 found_in rtype [] h = tt
-found_in rtype (form ∷ all) h = by (form.rtype == rtype) refl (both_parts (is_own form) (list_all is_own all) h)
-  where
-    by : (b : Bool) → (form.rtype == rtype) ≡ b → (is_own form ≡ true) × (list_all is_own all ≡ true) → IfSome (cond b (Some form) (find (λ (f : Form). f.rtype == rtype) all)) (IsOf rtype)
-    by true e parts = (own form parts.0, (Decides-eqb form.rtype rtype).0 e)
-    by false e parts = found_in rtype all parts.1
+found_in rtype (form ∷ all) h =
+    let parts = both_parts (is_own form) (list_all is_own all) h in
+    found_by rtype form (find (λ (f : Form). f.rtype == rtype) all) (form.rtype == rtype) refl (own form parts.0) (found_in rtype all parts.1)
 
 form_is : (rtype : ℕ) → IfSome (form_of rtype) (IsOf rtype)
 form_is rtype = found_in rtype forms forms_own
@@ -126,9 +128,8 @@ as_ttl n = record { 0 = n }
 
 ttl_mark : (n : ℕ) → n < 2 ^ 31 → mark_of false false (Plain (decimal n)) ≡ Ok (mark.Ttl (as_ttl n))
 ttl_mark n h =
-    let digits : is_number (Plain (decimal n)) ≡ true = (decimal_read n (omega arith)).digits in
-    let read = number_is_time 2147483647 (Plain (decimal n)) n (number_back 2147483647 n (omega arith) (omega arith)) in
-    rw digits (ap (λ (r : Result ℕ Cause). on_ok mark.Ttl (on_ok as_ttl r)) read)
+    let digits : are_digits (decimal n) ≡ true = (decimal_read n (omega arith)).digits in
+    rw digits (ap (λ (r : Result ℕ Cause). on_ok mark.Ttl (on_ok as_ttl r)) (number_back 2147483647 n (omega arith) (omega arith)))
 
 class_mark : mark_of true false (Plain (codes "IN")) ≡ Ok mark.Class
 unfolding class_named
