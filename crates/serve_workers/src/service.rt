@@ -168,10 +168,6 @@ fn serve_specs<
         Ok(context) => context,
         Err(fault) => return Err(fault),
     };
-    let jobs = match jobs_of(rt, alloc, specs, plan, updates) {
-        Ok(jobs) => jobs,
-        Err(fault) => return Err(fault),
-    };
     let parts = match Cell::<SharedVersion, ZoneVersions<Z>>::new(alloc, threads + 2, first) {
         Ok(parts) => parts,
         Err(NewFault::TooManyReaders) => unreachable!(),
@@ -179,14 +175,14 @@ fn serve_specs<
     };
     let ledgers = ServerLedgers::new();
     serve_with_readers::<R, Z, Brand, L, S>(
-        rt, alloc, parts, later, ledgers, jobs, plan, context, log,
+        rt, alloc, parts, later, ledgers, specs, plan, context, log,
     )
 }
 
-/// Serves the versions of a cell in which only the first is published, and ends the cell. The versions of `later` are to be published after the first. Each job gets
+/// Serves the versions of a cell in which only the first is published, and ends the cell. The versions of `later` are to be published after the first. Each thread gets
 /// a reader, and so do the engine and the update thread. Fails with `NoMemory` where an allocation fails, and else as [`serve_with_engine`] does.
 fn serve_with_readers<
-    R: Threads + Wait + Clock + Sync,
+    R: Net + Threads + Wait + Clock + Sync,
     Z: FirstZone + Send + Sync,
     N: ServerName + Send + Sync,
     L: ServiceLog + Sync,
@@ -197,7 +193,7 @@ fn serve_with_readers<
     parts: Parts<SharedVersion, ZoneVersions<Z>>,
     later: Vec<SharedVersion>,
     ledgers: ServerLedgers,
-    jobs: Vec<SocketJob<'_, R>>,
+    specs: Vec<ThreadSpec<'_>>,
     plan: Plan<'_>,
     context: UpdateContext<'_, R, S>,
     log: &L,
@@ -207,7 +203,7 @@ fn serve_with_readers<
     requires publisher { (parts.publisher.cell ≡ parts.cell) × (parts.publisher.number ≡ 0) }
     requires notes { parts.publisher.noted ≡ 0 }
     requires readers { All (λ r. (r.cell ≡ parts.cell) × (0 < r.left)) parts.readers.items }
-    requires count { vec_len parts.readers ≡ vec_len jobs + 2 }
+    requires count { vec_len parts.readers ≡ vec_len specs + 2 }
     requires follow { AreNext parts.publisher.value later.items }
     requires kept { plan.keep ≤ KEPT }
 {
@@ -232,18 +228,18 @@ fn serve_with_readers<
     let cell = NamedCell::of(cell);
     let publisher = NamedPublisher::of(publisher);
     let (served, publisher) = serve_with_engine::<R, Z, N, L, S>(
-        rt, alloc, &cell, publisher, own, reader, later, ledgers, &mut named, jobs, plan, context,
+        rt, alloc, &cell, publisher, own, reader, later, ledgers, &mut named, specs, plan, context,
         log,
     );
     end_named(rt, cell, publisher, named);
     served
 }
 
-/// Serves the versions of a cell in which only the first is published, by jobs with `readers`, an engine with its reader `own`, and the update thread with `reader`.
+/// Serves the versions of a cell in which only the first is published, by threads with `readers`, an engine with its reader `own`, and the update thread with `reader`.
 /// The versions of `later` are to be published after the first. The cell's tokens come back: the publisher, and all readers in `readers`, which has room for them.
-/// Fails with `Spent` where the versions of `later` can't be published, and else as [`serve_with_updates`] does.
+/// Fails with `Spent` where the versions of `later` can't be published, and else as [`serve_with_server`] does.
 fn serve_with_engine<
-    R: Threads + Wait + Clock + Sync,
+    R: Net + Threads + Wait + Clock + Sync,
     Z: FirstZone + Send + Sync,
     N: ServerName + Send + Sync,
     L: ServiceLog + Sync,
@@ -258,7 +254,7 @@ fn serve_with_engine<
     later: Vec<SharedVersion>,
     ledgers: ServerLedgers,
     readers: &mut Vec<VersionReader<N>>,
-    jobs: Vec<SocketJob<'_, R>>,
+    specs: Vec<ThreadSpec<'_>>,
     plan: Plan<'_>,
     context: UpdateContext<'_, R, S>,
     log: &L,
@@ -269,23 +265,14 @@ fn serve_with_engine<
     requires grant { 0 < own.left }
     requires follow { AreNext publisher.value later.items }
     requires kept { plan.keep ≤ KEPT }
-    requires count { vec_len readers.old ≡ vec_len jobs }
+    requires count { vec_len readers.old ≡ vec_len specs }
     requires room { vec_len readers.old + 1 < vec_capacity readers.old }
     ensures { vec_len readers.new ≡ vec_len readers.old + 2 }
 {
     let count = later.len();
     match Server::resume(alloc, cell, publisher, own, plan.keep, later, ledgers) {
         Ok((server, right)) => serve_with_server(
-            rt,
-            alloc,
-            server,
-            right,
-            plan.shutdown,
-            context,
-            reader,
-            readers,
-            jobs,
-            log,
+            rt, alloc, server, right, plan, context, reader, readers, specs, log,
         ),
         Err(
             NoEngine {
@@ -306,10 +293,10 @@ fn serve_with_engine<
     }
 }
 
-/// Serves the versions of a server's cell, as [`serve_with_updates`] does, and takes the server apart. The cell's publisher comes back, and all readers in `readers`, which
-/// has room for two more.
+/// Makes the jobs of the threads, serves the versions of a server's cell, as [`serve_with_updates`] does, and takes the server apart. The cell's publisher comes back, and all
+/// readers in `readers`, which has room for two more. Fails with `NoMemory` or `Device` where a job can't be made.
 fn serve_with_server<
-    R: Threads + Wait + Clock + Sync,
+    R: Net + Threads + Wait + Clock + Sync,
     Z: FirstZone + Send + Sync,
     N: ServerName + Send + Sync,
     L: ServiceLog + Sync,
@@ -319,20 +306,27 @@ fn serve_with_server<
     alloc: Global,
     server: Server<'_, Z, N>,
     right: PublishRight<N>,
-    shutdown: &Shutdown,
+    plan: Plan<'_>,
     context: UpdateContext<'_, R, S>,
     reader: VersionReader<N>,
     readers: &mut Vec<VersionReader<N>>,
-    jobs: Vec<SocketJob<'_, R>>,
+    specs: Vec<ThreadSpec<'_>>,
     log: &L,
 ) -> (Result<(), ServeFault>, VersionPublisher<Z, N>)
-    requires count { vec_len readers.old ≡ vec_len jobs }
+    requires count { vec_len readers.old ≡ vec_len specs }
     requires room { vec_len readers.old + 1 < vec_capacity readers.old }
     ensures { vec_len readers.new ≡ vec_len readers.old + 2 }
 {
-    let served = serve_with_updates(
-        rt, alloc, &server, shutdown, context, reader, right, readers, jobs, log,
-    );
+    let shutdown = plan.shutdown;
+    let served = match jobs_of(rt, alloc, specs, plan, context.updates) {
+        Ok(jobs) => serve_with_updates(
+            rt, alloc, &server, shutdown, context, reader, right, readers, jobs, log,
+        ),
+        Err(fault) => {
+            readers.push_reserved(reader);
+            Err(fault)
+        }
+    };
     let (publisher, own) = server.finish();
     readers.push_reserved(own);
     (served, publisher)
@@ -341,6 +335,8 @@ fn serve_with_server<
 /// Serves the versions of a server's cell, by jobs with `readers`, and the update thread with `reader`. All readers come back in `readers`, which has room for one more.
 /// Fails with `NoMemory` where the update thread can't be made, and else as [`serve_on_threads`] does.
 fn serve_with_updates<
+    'g,
+    's,
     R: Threads + Wait + Clock + Sync,
     Z: FirstZone + Send + Sync,
     N: ServerName + Send + Sync,
@@ -349,14 +345,14 @@ fn serve_with_updates<
 >(
     rt: &R,
     alloc: Global,
-    server: &Server<'_, Z, N>,
-    shutdown: &Shutdown,
-    context: UpdateContext<'_, R, S>,
+    server: &'g Server<'s, Z, N>,
+    shutdown: &'g Shutdown,
+    context: UpdateContext<'g, R, S>,
     reader: VersionReader<N>,
     right: PublishRight<N>,
     readers: &mut Vec<VersionReader<N>>,
-    jobs: Vec<SocketJob<'_, R>>,
-    log: &L,
+    jobs: Vec<SocketJob<'g, R>>,
+    log: &'g L,
 ) -> Result<(), ServeFault>
     requires count { vec_len readers.old ≡ vec_len jobs }
     requires room { vec_len readers.old < vec_capacity readers.old }
