@@ -119,7 +119,7 @@ fn serve_connections<'g, 's, R: Wait, Z: FirstZone, N: ServerName, L: ServiceLog
 }
 
 /// Does a job on connections with a handler, and counts the requests. Gives the handler back, and how the job ended.
-fn serve_counting<'g, R: Wait, M: Messages, A: Handler<M> + Drop, L: ServiceLog, C: Clock>(
+fn serve_counting<'g, R: Wait, M: Messages, A: Handler<M>, L: ServiceLog, C: Clock>(
     rt: &R,
     log: &'g L,
     handler: A,
