@@ -48,8 +48,8 @@ invariant_of-self-in-Unknown g c =
     let grown = meets_grows g.Z.FirstZone.zone c.self.inside.reader c.fetch.new.reader c.fetch.ensures.met.0 c.fetch.ensures.met.1 in
     left_all c.self.inside.reader c.fetch.new.reader grown c.self.inside.taken c.self.inside.asker c.fetch.result c.fetch.new.self c.fetch.ensures.rest c.self.invariant
 
-pub returns-in-Ready : goal.returns-in-Ready
-returns-in-Ready g c =
+pub returns-else-may : goal.returns-else-may
+returns-else-may g c =
     let grown = meets_grows g.Z.FirstZone.zone c.self.inside.reader c.fetch.new.reader c.fetch.ensures.met.0 c.fetch.ensures.met.1 in
     record {
       peer = c.abandon.ensures.peer ∙ ap (λ (s : HandlerState). s.peer) c.self.view_is;
