@@ -1,5 +1,6 @@
 pub mod Calls
 pub mod File
 pub mod Names
+pub mod Read
 pub mod Still
 pub mod Store
