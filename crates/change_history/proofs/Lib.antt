@@ -1,0 +1,4 @@
+pub mod StepLemmas
+pub mod OctetLemmas
+pub mod NetLemmas
+pub mod CondensedLemmas

@@ -1,0 +1,4 @@
+pub mod PlaceLemmas
+pub mod RunLemmas
+pub mod LogLemmas
+pub mod SinceLemmas
