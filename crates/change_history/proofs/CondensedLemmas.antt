@@ -26,6 +26,7 @@ use Rattle.transfer_in.specs.Held.{held_total}
 use Rattle.transfer_in.proofs.HoldingLemmas.{same_tied}
 use Rattle.change_history.specs.Condensed.{Net, taken_out, put_in, all_taken_out, all_put_in, after_step, after_steps, IsInPlaceOf, first_of, last_from}
 use Rattle.change_history.specs.Step.{Step, AreSteps}
+use Rattle.change_history.proofs.NetLemmas.{turned}
 
 -- equal records
 tied : (o : Ordering) → is_eq o ≡ true → o ≡ Equal
@@ -134,9 +135,6 @@ come_all net (r ∷ rs) s =
     come_all (taken_out net r) rs s ∙ ap (λ b. not (is_among rs s) && b) (come_one net r s) ∙ come_more (is_same_record s r) (is_among rs s) (is_among net.come s)
 
 -- to put in is to take out, seen from the other side
-abbrev turned : Net → Net
-turned net = record { gone = net.come; come = net.gone }
-
 put_is : (net : Net) (rs : List Record) → all_put_in net rs ≡ turned (all_taken_out (turned net) rs)
 put_is net [] = refl
 put_is net (r ∷ rs) = put_is (put_in net r) rs

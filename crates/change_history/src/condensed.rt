@@ -90,7 +90,7 @@ impl Condensed {
 /// One step in place of those since a serial: whatever zones they lead through, what it gives is what changed from the first of these to the last, so a
 /// record that came and went isn't there, and one whose TTL changed is there twice, as deletion and as addition (RFC 1995, 6). None in place of none.
 /// `AllocError` where memory is refused.
-pub fn condensed(alloc: Global, since: &Since<Step>) -> Result<Option<Condensed>, AllocError>
+pub fn condense(alloc: Global, since: &Since<Step>) -> Result<Option<Condensed>, AllocError>
     ensures some { IfOk result (λ found. is_some found ≡ nat_lt 0 (length since.now)) }
     ensures one { IfOk result (λ found. IfSome found (λ one. IsInPlaceOf one (steps_in (entries_of since.now)))) }
 {
@@ -132,8 +132,8 @@ fn sets_of(alloc: Global, records: &BTreeSet<SentRecord<'_>>) -> Result<Vec<RRse
     ensures { IfOk result (λ sets. records_in sets.items ≡ records.now.keys) }
 {
     let mut sets = Vec::with_capacity(alloc, records.len())?;
-    for record in records.iter() {
-        sets.push(record.to_set(alloc)?)?;
+    for sent in records.iter() {
+        sets.push(sent.to_set(alloc)?)?;
     }
     Ok(sets)
 }

@@ -14,7 +14,7 @@ mod net;
 mod sent;
 mod step;
 
-pub use condensed::{Condensed, condensed};
+pub use condensed::{Condensed, condense};
 pub use history::{ChangeHistory, change_history, entry};
 pub use laws::{
     condensed_replies_are_taken, history_follows_publications, replies_are_incremental,

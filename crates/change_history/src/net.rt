@@ -98,15 +98,16 @@ impl<'a> Net<'a> {
     }
 
     /// Takes a record out: one that had come is in neither list.
-    fn take_out(&mut self, record: SentRecord<'a>) -> Result<(), AllocError>
-        ensures { OnOk result (self.new ≡ taken_out self.old record) }
+    fn take_out(&mut self, sent: SentRecord<'a>) -> Result<(), AllocError>
+        ensures { OnOk result (self.new ≡ taken_out self.old sent.entry) }
     {
         // Their order is known from here on.
         let _count = self.come.len();
-        let had_come = self.come.remove(&record);
-        if !had_come {
-            self.gone.insert(record)?;
+        let had_come = self.come.remove(&sent);
+        if had_come {
+            return Ok(());
         }
+        self.gone.insert(sent)?;
         Ok(())
     }
 
@@ -132,15 +133,16 @@ impl<'a> Net<'a> {
     }
 
     /// Puts a record in: one that was gone is in neither list.
-    fn put_in(&mut self, record: SentRecord<'a>) -> Result<(), AllocError>
-        ensures { OnOk result (self.new ≡ put_in self.old record) }
+    fn put_in(&mut self, sent: SentRecord<'a>) -> Result<(), AllocError>
+        ensures { OnOk result (self.new ≡ put_in self.old sent.entry) }
     {
         // Their order is known from here on.
         let _count = self.gone.len();
-        let was_gone = self.gone.remove(&record);
-        if !was_gone {
-            self.come.insert(record)?;
+        let was_gone = self.gone.remove(&sent);
+        if was_gone {
+            return Ok(());
         }
+        self.come.insert(sent)?;
         Ok(())
     }
 }

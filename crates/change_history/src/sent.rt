@@ -30,7 +30,7 @@ impl<'a> Model for SentRecord<'a> {
 impl<'a> SentRecord<'a> {
     /// A record that is lent.
     pub(crate) fn new(lent: LentRecord<'a>) -> SentRecord<'a>
-        ensures { result ≡ lent }
+        ensures { result ≡ lent.entry }
     {
         SentRecord { lent }
     }
