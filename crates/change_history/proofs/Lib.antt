@@ -1,4 +1,5 @@
 pub mod StepLemmas
 pub mod OctetLemmas
 pub mod NetLemmas
+pub mod FirstLemmas
 pub mod CondensedLemmas

@@ -90,6 +90,7 @@ impl Condensed {
 /// One step in place of those since a serial: whatever zones they lead through, what it gives is what changed from the first of these to the last, so a
 /// record that came and went isn't there, and one whose TTL changed is there twice, as deletion and as addition (RFC 1995, 6). None in place of none.
 /// `AllocError` where memory is refused.
+#[tactic(auto, using(crate::proofs::FirstLemmas::some_first))]
 pub fn condense(alloc: Global, since: &Since<Step>) -> Result<Option<Condensed>, AllocError>
     ensures some { IfOk result (λ found. is_some found ≡ nat_lt 0 (length since.now)) }
     ensures one { IfOk result (λ found. IfSome found (λ one. IsInPlaceOf one (steps_in (entries_of since.now)))) }
@@ -99,11 +100,15 @@ pub fn condense(alloc: Global, since: &Since<Step>) -> Result<Option<Condensed>,
     };
     let last = last_step(since, first);
     let net = Net::of(alloc, since)?;
+    let old_soa = first.delta().old_soa().copy(alloc)?;
+    let deletions = sets_of(alloc, net.gone())?;
+    let soa = last.soa().copy(alloc)?;
+    let additions = sets_of(alloc, net.come())?;
     Ok(Some(Condensed {
-        old_soa: first.delta().old_soa().copy(alloc)?,
-        deletions: sets_of(alloc, net.gone())?,
-        soa: last.soa().copy(alloc)?,
-        additions: sets_of(alloc, net.come())?,
+        old_soa,
+        deletions,
+        soa,
+        additions,
     }))
 }
 
