@@ -1,9 +1,6 @@
-pub mod BareLemmas
 pub mod OrderLemmas
 pub mod PlainFileLemmas
 pub mod RecordLemmas
 pub mod SpellLemmas
-pub mod SpeltWords
 pub mod TextBackLemmas
-pub mod WideWords
 pub mod WordsBackLemmas

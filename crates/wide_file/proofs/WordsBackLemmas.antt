@@ -59,10 +59,10 @@ use Rattle.wide_file.specs.declared.record_entry.WideEntry.{WideEntry}
 use Rattle.wide_file.specs.declared.record_entry.WideEntry.TheVariants as entry
 use Rattle.wide_file.proofs.OrderLemmas.{wide_then}
 use Rattle.wide_file.proofs.PlainFileLemmas.{all_of, all_placed, all_read, as_entries, laid_same, not_left_out}
-use Rattle.wide_file.proofs.BareLemmas.{bare, both_parts}
-use Rattle.wide_file.proofs.SpeltWords.{IsBareText, text_good}
+use Rattle.wide_text.proofs.BareLemmas.{bare, both_parts}
+use Rattle.wide_text.proofs.SpeltWords.{IsBareText, text_good}
 use Rattle.wide_file.proofs.TextBackLemmas.{AreBelow}
-use Rattle.wide_file.proofs.WideWords.{GoodWords, fields_good, wide_words-spelt}
+use Rattle.wide_text.proofs.WideWords.{GoodWords, fields_good, wide_words-spelt}
 
 -- the word of a form names its type, which is none of signers' records
 record IsOwn (form : Form) : Type 0 where

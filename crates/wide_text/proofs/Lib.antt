@@ -1,3 +1,4 @@
+pub mod BareLemmas
 pub mod EuiLemmas
 pub mod FieldLemmas
 pub mod ItemLemmas
@@ -8,5 +9,7 @@ pub mod PlainFront
 pub mod PlainLemmas
 pub mod QuoteLemmas
 pub mod RestLemmas
+pub mod SpeltWords
+pub mod WideWords
 pub mod WordLemmas
 pub mod WriteLemmas

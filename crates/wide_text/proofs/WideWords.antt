@@ -12,12 +12,11 @@ use Rattle.dns_name.specs.Name.{Name, wire_of, name_in}
 use Rattle.dns_name.specs.Text.{text_of}
 use Rattle.dns_rdata.specs.Data.{data_of}
 use Rattle.hex.specs.Hex.{encode_lower}
-use Rattle.record_text.specs.Data.{as_data}
+use Rattle.record_text.specs.Data.{as_data, form_of as plain_form}
 use Rattle.record_text.specs.Generic.{are_generic}
 use Rattle.record_text.specs.Text.{string_octet, strings_in, word_at as plain_word_at, words_at, words_of}
 use Rattle.record_text.specs.declared.cause.Cause.{Cause}
 use Rattle.record_text.specs.declared.cause.Cause.TheVariants.{BadData, Limit}
-use Rattle.record_text.specs.declared.data.Field.TheVariants as plain
 use Rattle.record_text.proofs.BackLemmas.{AreOctets}
 use Rattle.record_text.proofs.MarkLemmas.{fields_other, strings_other}
 use Rattle.record_text.proofs.SpeltLemmas.{AreSpelt, first_spelt, name_spelt, string_octet-passes, words_spelt}
@@ -35,8 +34,8 @@ use Rattle.zone_lexing.specs.Spelling.{is_run, is_spelt}
 use Rattle.zone_lexing.specs.Word.{Written}
 use Rattle.zone_lexing.specs.Word.Written.{Plain, Quoted}
 use Rattle.zone_lexing.proofs.RunLemmas.{each_passes, of_string}
-use Rattle.wide_file.proofs.BareLemmas.{AreBare, IsGood, bare_good, base64_bare, base64_some, both_bare, decimal_good, hex_bare, hex_some, letters_bare, some_front}
-use Rattle.wide_file.proofs.SpeltWords.{AreGood, location_words-good, more_good, param_words-good}
+use Rattle.wide_text.proofs.BareLemmas.{AreBare, IsGood, bare_good, base64_bare, base64_some, both_bare, decimal_good, hex_bare, hex_some, letters_bare, some_front}
+use Rattle.wide_text.proofs.SpeltWords.{AreGood, location_words-good, more_good, param_words-good}
 
 -- the word of a field, where there is one
 abbrev GoodWord : Option (Written × ℕ) → Type 0
@@ -47,12 +46,20 @@ quoted_good : (string : List ℕ) → IsGood (quoted string)
 quoted_good string =
     (ap (is_run of_string false) (sym (append-nil (flat_map string_octet string))) ∙ each_passes of_string string_octet string_octet-passes string [], λ words. refl)
 
--- names
+-- names: as what is written of an NS
+each : {X : Type 0} (P : X → Type 0) (o : Option X) → ((x : X) → P x) → IfSome o P
+each P None h = tt
+each P (Some x) h = h x
+
+name_words : (octets : List ℕ) → AreOctets octets → IfSome (plain_form 2) (λ fields. are_generic (words_at fields octets) ≡ false)
+name_words octets h = each (λ fields. are_generic (words_at fields octets) ≡ false) (plain_form 2) (λ fields. fields_other fields octets h)
+
 name_other : (octets : List ℕ) (name : Name) (words : List Written) → AreOctets octets → name_in octets ≡ Some name → are_generic (Plain (text_of name) ∷ words) ≡ false
-unfolding plain_word_at
+unfolding plain_form plain_word_at
 name_other octets name words h e =
-    sym (ap (λ (o : Option Name). are_generic (elim (option_map (λ (n : Name). (text_of n, length (wire_of n))) o) as (λ _. List Written) [ None ↦ [] | Some word ↦ Plain word.0 ∷ words_at [] (drop word.1 octets) ])) e)
-    ∙ fields_other (plain.Name ∷ []) octets h
+    let word : Name → List ℕ × ℕ = λ n. (text_of n, length (wire_of n)) in
+    sym (ap (λ (o : Option Name). are_generic (elim (option_map {U = List ℕ × ℕ} word o) as (λ _. List Written) [ None ↦ [] | Some word ↦ Plain word.0 ∷ words_at [] (drop word.1 octets) ])) e)
+    ∙ name_words octets h
 
 name_by : (octets : List ℕ) (found : Option Name) → AreOctets octets → name_in octets ≡ found → GoodWord (option_map (λ (name : Name). (Plain (text_of name), length (wire_of name))) found)
 name_by octets None h e = tt

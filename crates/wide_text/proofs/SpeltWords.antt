@@ -7,6 +7,8 @@ use Rattle.std.specs.Net.Text.{dotted_text}
 use Rattle.std.proofs.lemmas.Bool.Decides.{nat_tests}
 use Rattle.std.proofs.lemmas.List.{append_assoc}
 use Rattle.std.proofs.lemmas.List.Elements.{All-head, All-tail, All-drop, All-take}
+use Rattle.base64.specs.Engines.{standard}
+use Rattle.base64.specs.GeneralPurpose.{encode_of}
 use Rattle.dns_name.specs.Text.{digits_of}
 use Rattle.record_text.specs.Generic.{are_generic, generic_mark}
 use Rattle.record_text.specs.Text.{group_text, groups_text}
@@ -24,7 +26,7 @@ use Rattle.zone_lexing.specs.Spelling.{is_spelt}
 use Rattle.zone_lexing.specs.Word.{Written}
 use Rattle.zone_lexing.specs.Word.Written.{Plain}
 use Rattle.zone_lexing.proofs.RunLemmas.{Passes, both_pass, each_passes, escaped_passes, of_word, spelt_plain}
-use Rattle.wide_file.proofs.BareLemmas.{AreBare, IsGood, bare_good, bare_other, bare_passes, base64_bare, both_bare, cons_bare, decimal_bare, decimal_good, glyph_stop, group_bare, some_front, stops, stops_passes}
+use Rattle.wide_text.proofs.BareLemmas.{AreBare, IsGood, bare_good, bare_other, bare_passes, base64_bare, both_bare, cons_bare, decimal_bare, decimal_good, glyph_stop, group_bare, some_front, stops, stops_passes}
 
 -- what is found in a list has what each of it has
 found_by : {X : Type 0} (P : X → Type 0) (b : Bool) (x : X) (rest : Option X) → P x → IfSome rest P → IfSome (cond b (Some x) rest) P
@@ -153,7 +155,7 @@ port-passes (a ∷ b ∷ c ∷ octets) = nothing_passes
 
 base64-passes : (octets : List ℕ) → Passes of_word (base64_text octets)
 base64-passes [] = nothing_passes
-base64-passes (c ∷ octets) = sign_passes _ (bare_passes _ (base64_bare (c ∷ octets)))
+base64-passes (c ∷ octets) = let text = encode_of standard (c ∷ octets) in sign_passes text (bare_passes text (base64_bare (c ∷ octets)))
 
 octets-pass : (octets : List ℕ) → Passes of_word (octets_text octets)
 octets-pass [] = nothing_passes
