@@ -40,13 +40,12 @@ use Rattle.master_file.proofs.ZoneLawLemmas.{each_first, lines_are, lines_spelt}
 use Rattle.wide_text.specs.Data.{data_by, wide_data}
 use Rattle.wide_text.specs.Fields.{fields_of}
 use Rattle.wide_text.specs.Forms.{Form, form_of, forms, other_type_named, wide_type_named}
-use Rattle.wide_text.specs.Front.{front_from, mark_of, type_mark, wide_front}
+use Rattle.wide_text.specs.Front.{wide_front}
 use Rattle.wide_text.specs.Mnemonics.{signing_types, type_NSEC, type_NSEC3, type_NSEC3PARAM, type_RRSIG}
 use Rattle.wide_text.specs.Signing.{all_closed, is_signing, left_out}
 use Rattle.wide_text.specs.Times.{is_time, ttl_of}
 use Rattle.wide_text.specs.Words.{wide_type_word, wide_words, word_in_form, words_by, words_in_form}
-use Rattle.wide_text.specs.declared.front.Mark.{Mark}
-use Rattle.wide_text.specs.declared.front.Mark.TheVariants as mark
+use Rattle.wide_text.proofs.FrontBack.{front_is}
 use Rattle.wide_text.proofs.PlainLemmas.{plain_data_is_wide}
 use Rattle.wide_text.proofs.RestLemmas.{AreBack, fields_back}
 use Rattle.wide_file.specs.Included.{Files, included_to, max_depth, entries_read}
@@ -122,35 +121,8 @@ word_by rtype octets None h e = record { named = ap (λ (o : Option ℕ). option
 has_word : (rtype : ℕ) (octets : List ℕ) → data_of rtype octets ≡ Some octets → HasWord rtype (wide_type_word rtype)
 has_word rtype octets e = word_by rtype octets (form_of rtype) (form_is rtype) e
 
--- what stands before the data
 abbrev as_ttl : ℕ → Ttl
 as_ttl n = record { 0 = n }
-
-ttl_mark : (n : ℕ) → n < 2 ^ 31 → mark_of false false (Plain (decimal n)) ≡ Ok (mark.Ttl (as_ttl n))
-ttl_mark n h =
-    let digits : are_digits (decimal n) ≡ true = (decimal_read n (omega arith)).digits in
-    rw digits (ap (λ (r : Result ℕ Cause). on_ok mark.Ttl (on_ok as_ttl r)) (number_back 2147483647 n (omega arith) (omega arith)))
-
-class_mark : mark_of true false (Plain (codes "IN")) ≡ Ok mark.Class
-unfolding class_named
-class_mark = refl
-
-type_mark_is : (text : List ℕ) (rtype : ℕ) → wide_type_named text ≡ Some rtype → mark_of true true (Plain text) ≡ Ok (mark.Type (record { 0 = rtype }))
-type_mark_is text rtype e = ap (λ (o : Option ℕ). on_ok (λ (n : ℕ). mark.Type (record { 0 = n })) (ok_or o UnknownType)) e
-
-abbrev after_mark : Option Ttl → Bool → List Written → Result Mark Cause → Result Front Cause
-after_mark ttl classed words m = and_then m (λ m. elim m [
-  | mark.Ttl own ↦ front_from (Some own) classed words
-  | mark.Class ↦ front_from ttl true words
-  | mark.Type rtype ↦ Ok (record { ttl = ttl; rtype = rtype.0; words = words })
-])
-
-front_is : (n rtype : ℕ) (text : List ℕ) (words : List Written) → n < 2 ^ 31 → wide_type_named text ≡ Some rtype
-    → wide_front (Plain (decimal n) ∷ Plain (codes "IN") ∷ Plain text ∷ words) ≡ Ok (record { ttl = Some (as_ttl n); rtype = rtype; words = words })
-front_is n rtype text words h e =
-    ap (after_mark None false (Plain (codes "IN") ∷ Plain text ∷ words)) (ttl_mark n h)
-    ∙ ap (after_mark (Some (as_ttl n)) false (Plain text ∷ words)) class_mark
-    ∙ ap (after_mark (Some (as_ttl n)) true words) (type_mark_is text rtype e)
 
 -- the data
 record IsData (rtype : ℕ) (octets : List ℕ) : Type 0 where

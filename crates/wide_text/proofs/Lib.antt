@@ -2,6 +2,7 @@ pub mod BareLemmas
 pub mod EuiLemmas
 pub mod FieldLemmas
 pub mod ItemLemmas
+pub mod FrontBack
 pub mod KeyedLemmas
 pub mod LocationLemmas
 pub mod ParamLemmas
