@@ -1,5 +1,5 @@
 -- What the rule allows a publisher that ends the cell, takes readers in and gives them back.
-use Rattle.std.proofs.Common.{◌≡◌, refl, sym, ap, ◌∙◌, subst, ℕ, suc, ◌+◌, ◌<◌, List, [], ◌∷◌, Option, Some, None, get_or}
+use Rattle.std.proofs.Common.{◌≡◌, refl, sym, ap, ◌∙◌, subst, false, ℕ, suc, ◌+◌, ◌<◌, List, [], ◌∷◌, Option, Some, None, get_or}
 use Rattle.atomic_table.specs.Table.{Allows, Splits, Joins, carried_after}
 use Rattle.raw_slots.specs.Places.{Alone, first_with}
 use Rattle.cell_core.specs.Words.{slots, slot_of}
@@ -70,11 +70,11 @@ pub swept_to : {T : Type 0} (p : Publishing T) (word last slot : ℕ) (old now :
 swept_to p word last slot old now is now_is = record { me_is = now_is; how = is.how; fixed = is.fixed; last_is = is.last_is; swept = refl }
 
 -- a publisher that has looked at W
-pub looked_at : {T : Type 0} (p : Publishing T) (found : ℕ) (old now : Sat T) → IsAlone p old → Looked p found now → IsSweeping (record p { fixed = Some found; swept = 0 }) found (slot_of found) 0 now
+pub looked_at : {T : Type 0} (p : Publishing T) (found : ℕ) (old now : Sat T) → IsAlone p old → Looked p found now → IsSweeping (record p { fixed = Some found; swept = 0; busy = false }) found (slot_of found) 0 now
 looked_at p found old now is reported = record { me_is = reported.1; how = is.how; fixed = refl; last_is = refl; swept = refl }
 
 -- the last version's place, when nobody has a claim of it
-pub parted_as : {T : Type 0} (p : Publishing T) (fixed : Option ℕ) (swept slot : ℕ) (me whole : Sat T) → (e : IsEnding (record p { fixed = fixed; swept = swept }) slot me) → whole ≡ (me.0, first_with (λ (y : Room T). record y { stake = [] }) me.1) → IsParted p slot whole
+pub parted_as : {T : Type 0} (p : Publishing T) (fixed : Option ℕ) (swept slot : ℕ) (me whole : Sat T) → (e : IsEnding (record p { fixed = fixed; swept = swept; busy = false }) slot me) → whole ≡ (me.0, first_with (λ (y : Room T). record y { stake = [] }) me.1) → IsParted p slot whole
 parted_as p fixed swept slot me whole e is =
     record {
       spot = e.spot;

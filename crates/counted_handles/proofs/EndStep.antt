@@ -1,5 +1,5 @@
 -- The steps of a cell's end keep the rule.
-use Rattle.std.proofs.Common.{◌≡◌, ◌≢◌, refl, sym, ap, ◌∙◌, subst, ℕ, suc, ◌+◌, ◌-◌, ◌<◌, inl, inr, ⊎_elim, List, [], ◌∷◌, length, get_or, set, arith, Some, None, append-nil}
+use Rattle.std.proofs.Common.{◌≡◌, ◌≢◌, refl, sym, ap, ◌∙◌, subst, ℕ, suc, ◌+◌, ◌-◌, ◌<◌, inl, inr, ⊎_elim, Bool, true, List, [], ◌∷◌, length, get_or, set, arith, Some, None, append-nil}
 use Rattle.std.specs.Prelude.{◌==◌}
 use Rattle.std.specs.List.{slice_get}
 use Rattle.std.proofs.lemmas.List.{set-get_or}
@@ -9,7 +9,7 @@ use mathlib.Core.Option.{none, some}
 use lib.ListN.{get_elem?}
 use prog.Atomic.{either}
 use Rattle.atomic_table.specs.Table.{Allows, Act, keeps, takes, gives, Valid, stepped, carried_after}
-use Rattle.atomic_table.proofs.Lists.{at_set, set_here, set_else, set_again, exchanged}
+use Rattle.atomic_table.proofs.Lists.{at_set, set_here, set_else, exchanged}
 use Rattle.raw_slots.specs.Places.{Alone}
 use Rattle.cell_core.proofs.ShowsLemmas.{last_lies, latest_slot}
 use Rattle.cell_core.proofs.ProbeKeeps.{take_keeps, pass_keeps}
@@ -91,11 +91,6 @@ module _ {T : Type 0} (begins : T → Type 0) (follows : T → T → Type 0) (sp
       (λ q. buries_none s e id slot name at))
       (opened begins follows spots s id (Buries slot name) (λ value e. cc) (λ spot e. cc) at r)
 
-  -- a step that changes nothing
-  untouched : (s : Board T) (id i : ℕ) (view : View T) → get_elem? s.views id ≡ some view → Ruled begins follows spots s → Ruled begins follows spots (record { words = set s.words i (get_or s.words i 0); homes = s.homes; views = set s.views id view })
-  untouched s id i view at r =
-      subst (λ (b : Board T). Ruled begins follows spots b) (λ k. record { words = sym (set-get_or s.words i 0) k; homes = s.homes; views = sym (set_again s.views id view at) k }) r
-
   -- one slot more is seen free
   more_free : (s : Board T) (h : Holds begins follows spots s) (p : Publishing T) (slot last : ℕ) → AreFree s.words s.homes last p.swept → (slot ≢ last → IsFree s.words s.homes slot) → (slot ≡ last → get_or s.words (suc (suc (last + last))) 0 ≡ 1) → p.swept ≡ slot → AreFree s.words s.homes last (p.swept + 1)
   more_free s h p slot last are is untied same = (
@@ -127,13 +122,12 @@ module _ {T : Type 0} (begins : T → Type 0) (follows : T → T → Type 0) (sp
       let room = free_room spots h.name st slot k there.home probing unfreed empty (h.homes slot there.home there.home_at) in
       record { shares = free; room = room.0; home = there.home_at ∙ ap some room.1; empty = room.3 }
 
-  -- a look that counts one slot more
-  counted : (s : Board T) (h : Holds begins follows spots s) (p : Publishing T) (k slot i : ℕ) → get_elem? s.views 0 ≡ some (Publishes p) → p.how ≡ Probing k → p.swept ≡ slot → ((w : ℕ) → p.fixed ≡ Some w → slot ≢ slot_of w → IsFree s.words s.homes slot)
-      → ((w : ℕ) → p.fixed ≡ Some w → slot ≡ slot_of w → get_or s.words (suc (suc (slot_of w + slot_of w))) 0 ≡ 1)
-      → Holds begins follows spots (record { words = set s.words i (get_or s.words i 0); homes = s.homes; views = set s.views 0 (Publishes (record p { swept = p.swept + 1 })) })
-  counted s h p k slot i at how same free untied =
+  -- a look by which the publisher has seen so many slots free, and somebody who has a version or nobody
+  looked_on : (s : Board T) (h : Holds begins follows spots s) (p : Publishing T) (i swept : ℕ) (busy : Bool) → get_elem? s.views 0 ≡ some (Publishes p) → ((w k : ℕ) → p.fixed ≡ Some w → p.how ≡ Probing k → AreFree s.words s.homes (slot_of w) swept)
+      → Holds begins follows spots (record { words = set s.words i (get_or s.words i 0); homes = s.homes; views = set s.views 0 (Publishes (record p { swept = swept; busy = busy })) })
+  looked_on s h p i swept busy at free =
       let st : State T = shown s in
-      let new : Publishing T = record p { swept = p.swept + 1 } in
+      let new : Publishing T = record p { swept = swept; busy = busy } in
       let known = h.knows 0 (Publishes p) at in
       let counts = knows_publisher begins follows spots s h p at in
       let words : set s.words i (get_or s.words i 0) ≡ s.words = set-get_or s.words i 0 in
@@ -152,7 +146,7 @@ module _ {T : Type 0} (begins : T → Type 0) (follows : T → T → Type 0) (sp
         sunk = counts.sunk;
         gone = λ j u. u;
         fixed = counts.fixed;
-        free = λ w j e q. more_free s h p slot (slot_of w) (counts.free w j e q) (free w e) (untied w e) same;
+        free = free;
         spare = counts.spare;
         homes_are = λ place home e. home_stays spots h.name st after place home
             (λ q. ap (λ (x : State T). x.publisher) is ∙ q)
@@ -161,6 +155,18 @@ module _ {T : Type 0} (begins : T → Type 0) (follows : T → T → Type 0) (sp
         mine = (known.0, known.1, known.2, known.3);
         others = λ j view other e. unmoved s.homes h.name view;
       }))
+
+  -- one that counts one slot more
+  counted : (s : Board T) (h : Holds begins follows spots s) (p : Publishing T) (k slot i : ℕ) → get_elem? s.views 0 ≡ some (Publishes p) → p.how ≡ Probing k → p.swept ≡ slot → ((w : ℕ) → p.fixed ≡ Some w → slot ≢ slot_of w → IsFree s.words s.homes slot)
+      → ((w : ℕ) → p.fixed ≡ Some w → slot ≡ slot_of w → get_or s.words (suc (suc (slot_of w + slot_of w))) 0 ≡ 1)
+      → Holds begins follows spots (record { words = set s.words i (get_or s.words i 0); homes = s.homes; views = set s.views 0 (Publishes (record p { swept = p.swept + 1 })) })
+  counted s h p k slot i at how same free untied =
+      let counts = knows_publisher begins follows spots s h p at in
+      looked_on s h p i (p.swept + 1) p.busy at (λ w j e q. more_free s h p slot (slot_of w) (counts.free w j e q) (free w e) (untied w e) same)
+
+  -- one that sees somebody who has a version
+  busied : (s : Board T) (h : Holds begins follows spots s) (p : Publishing T) (i : ℕ) → get_elem? s.views 0 ≡ some (Publishes p) → Holds begins follows spots (record { words = set s.words i (get_or s.words i 0); homes = s.homes; views = set s.views 0 (Publishes (record p { busy = true })) })
+  busied s h p i at = looked_on s h p i p.swept true at (λ w j e q. (knows_publisher begins follows spots s h p at).free w j e q)
 
   pub sweeps : (p : Publishing T) (k slot word : ℕ) → p.how ≡ Probing k → p.swept ≡ slot → p.fixed ≡ Some word → slot_of word ≢ slot → slot < slots → Allows (Ruled begins follows spots) slots 0 (Publishes p, []) (suc (slot + slot)) (λ n. n) (λ found me. Swept p found me)
   sweeps p k slot word how same fixed elsewhere l s r size at bound =
@@ -175,7 +181,7 @@ module _ {T : Type 0} (begins : T → Type 0) (follows : T → T → Type 0) (sp
           inr (inr (inl (counted s h p k slot (suc (slot + slot)) at how same (λ w e apart. seen_free s h p k slot at how l free.1) (λ w e here. absurd (elsewhere (ap slot_of (words w e) ∙ sym here)))))),
           when_equal found free_word _ _ free.1 refl,
         )
-        | inr other ↦ (Publishes p, keeps, tt, untouched s 0 (suc (slot + slot)) (Publishes p) at r, when_apart found free_word _ _ other.1 refl)
+        | inr other ↦ (Publishes (record p { busy = true }), keeps, tt, inr (inr (inl (busied s h p (suc (slot + slot)) at))), when_apart found free_word _ _ other.1 refl)
       ]
 
   pub skips : (p : Publishing T) (k slot word : ℕ) → p.how ≡ Probing k → p.swept ≡ slot → p.fixed ≡ Some word → slot_of word ≡ slot → Allows (Ruled begins follows spots) slots 0 (Publishes p, []) (suc (suc (slot + slot))) (λ n. n) (λ found me. Skipped p found me)
@@ -191,7 +197,7 @@ module _ {T : Type 0} (begins : T → Type 0) (follows : T → T → Type 0) (sp
           inr (inr (inl (counted s h p k slot (suc (suc (slot + slot))) at how same (λ w e apart. absurd (apart (sym last ∙ ap slot_of (words w e)))) (λ w e here. ap (λ n. get_or s.words (suc (suc (n + n))) 0) (sym here) ∙ one.1)))),
           when_equal found 1 _ _ one.1 refl,
         )
-        | inr other ↦ (Publishes p, keeps, tt, untouched s 0 (suc (suc (slot + slot))) (Publishes p) at r, when_apart found 1 _ _ other.1 refl)
+        | inr other ↦ (Publishes (record p { busy = true }), keeps, tt, inr (inr (inl (busied s h p (suc (suc (slot + slot))) at))), when_apart found 1 _ _ other.1 refl)
       ]
 
   -- the seats beside the first one, where nobody reads, has a share, weakly or not, or is to do something in a slot that is buried
@@ -326,7 +332,7 @@ module _ {T : Type 0} (begins : T → Type 0) (follows : T → T → Type 0) (sp
               }),
             )
             )
-        | inr other ↦ (Publishes p, keeps, tt, untouched s 0 (suc (slot + slot)) (Publishes p) at r, when_apart found (bulk - given_of word) _ _ other.1 refl)
+        | inr other ↦ (Publishes (record p { busy = true }), keeps, tt, inr (inr (inl (busied s h p (suc (slot + slot)) at))), when_apart found (bulk - given_of word) _ _ other.1 refl)
       ]
 
   -- at a cell's end, by the view of its first seat

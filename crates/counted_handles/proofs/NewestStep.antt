@@ -1,5 +1,5 @@
 -- A load by the publisher keeps the rule, and so do its looks at W.
-use Rattle.std.proofs.Common.{◌≡◌, refl, sym, ap, ◌∙◌, subst, ℕ, ◌+◌, ◌-◌, ◌%◌, ◌^◌, ◌<◌, List, [], length, get_or, set, arith, Some, None, append-nil}
+use Rattle.std.proofs.Common.{◌≡◌, refl, sym, ap, ◌∙◌, subst, false, ℕ, ◌+◌, ◌-◌, ◌%◌, ◌^◌, ◌<◌, List, [], length, get_or, set, arith, Some, None, append-nil}
 use Rattle.std.specs.List.{slice_get}
 use Rattle.atomic_table.specs.Table.{Allows, keeps}
 use Rattle.cell_core.proofs.ShowsLemmas.{last_lies, latest_slot}
@@ -98,7 +98,7 @@ module _ {T : Type 0} (begins : T → Type 0) (follows : T → T → Type 0) (sp
       let st : State T = shown s in
       let found : ℕ = get_or s.words 0 0 in
       let words : List ℕ = set s.words 0 found in
-      let new : Publishing T = record p { fixed = Some found; swept = 0 } in
+      let new : Publishing T = record p { fixed = Some found; swept = 0; busy = false } in
       let known = h.knows 0 (Publishes p) at in
       let lies = last_lies st h.cell h.shows in
       let there = slotted s h (h.shows.plan.slot h.shows.plan.last) lies.0 in

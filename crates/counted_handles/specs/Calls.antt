@@ -230,12 +230,12 @@ pub record IsAlone {T : Type 0} (p : Publishing T) (me : Sat T) : Type 0 where
 abbrev pub CanEnd : {T : Type 0} → Publishing T → List (View T) → Type 0
 CanEnd p views = (views ≡ Publishes p ∷ []) × (p.how ≡ Probing 0) × (p.readers ≡ 0)
 
--- the publisher as it was, but for what it has seen of the words (own)
+-- the publisher as it was, but for what it has seen of the words: somebody has a version (own)
 abbrev pub HasLooked : {T : Type 0} → Publishing T → Sat T → Type 0
-HasLooked p me = (fixed : Option ℕ) × (swept : ℕ) × (me ≡ (Publishes (record p { fixed = fixed; swept = swept }), []))
+HasLooked p me = (fixed : Option ℕ) × (swept : ℕ) × (me ≡ (Publishes (record p { fixed = fixed; swept = swept; busy = true }), []))
 
 abbrev pub IsLike : {T : Type 0} → Publishing T → List (View T) → Type 0
-IsLike p views = (fixed : Option ℕ) × (swept : ℕ) × (views ≡ Publishes (record p { fixed = fixed; swept = swept }) ∷ [])
+IsLike p views = (fixed : Option ℕ) × (swept : ℕ) × (views ≡ Publishes (record p { fixed = fixed; swept = swept; busy = true }) ∷ [])
 
 -- no slot is one of those that the publisher has seen free, and may still take (own)
 abbrev pub HasNone : {T : Type 0} → Publishing T → Type 0

@@ -178,15 +178,15 @@ SeenAlive r mark me = (me ≡ (Hosts r (Once mark), [])) × (Contains r.gone mar
 
 -- a look at W while no reader is about (own)
 abbrev pub Looked : {T : Type 0} → Publishing T → ℕ → Sat T → Type 0
-Looked p found me = (slot_of found < slots) × (me ≡ (Publishes (record p { fixed = Some found; swept = 0 }), []))
+Looked p found me = (slot_of found < slots) × (me ≡ (Publishes (record p { fixed = Some found; swept = 0; busy = false }), []))
 
--- a look at S of the next slot: it counts where it is FREE (own)
+-- a look at S of the next slot: it counts where it is FREE; else somebody has a version (own)
 abbrev pub Swept : {T : Type 0} → Publishing T → ℕ → Sat T → Type 0
-Swept p found me = MatchBool (found == free_word) (me ≡ (Publishes (record p { swept = p.swept + 1 }), [])) (me ≡ (Publishes p, []))
+Swept p found me = MatchBool (found == free_word) (me ≡ (Publishes (record p { swept = p.swept + 1 }), [])) (me ≡ (Publishes (record p { busy = true }), []))
 
--- a look at K of the slot in W: it counts where it has no weak owner (own)
+-- a look at K of the slot in W: it counts where it has no weak owner; else somebody has its version weakly (own)
 abbrev pub Skipped : {T : Type 0} → Publishing T → ℕ → Sat T → Type 0
-Skipped p found me = MatchBool (found == 1) (me ≡ (Publishes (record p { swept = p.swept + 1 }), [])) (me ≡ (Publishes p, []))
+Skipped p found me = MatchBool (found == 1) (me ≡ (Publishes (record p { swept = p.swept + 1 }), [])) (me ≡ (Publishes (record p { busy = true }), []))
 
 -- the cell's end: the first seat has the place of the last version, of which nobody has a share (own)
 pub record IsEnding {T : Type 0} (p : Publishing T) (slot : ℕ) (me : Sat T) : Type 0 where
@@ -202,9 +202,9 @@ pub record IsEnding {T : Type 0} (p : Publishing T) (slot : ℕ) (me : Sat T) : 
   pub last : length p.published ≡ mark.number + 1
   pub value : slice_get p.published mark.number ≡ Some mark.value
 
--- a look at S of the slot in W: the cell ends where it is what the cell has of the last version's shares (own)
+-- a look at S of the slot in W: the cell ends where it is what the cell has of the last version's shares; else somebody has one (own)
 abbrev pub EndsAt : {T : Type 0} → Publishing T → ℕ → ℕ → Sat T → Type 0
-EndsAt p word found me = MatchBool (found == bulk - given_of word) (IsEnding p (slot_of word) me) (me ≡ (Publishes p, []))
+EndsAt p word found me = MatchBool (found == bulk - given_of word) (IsEnding p (slot_of word) me) (me ≡ (Publishes (record p { busy = true }), []))
 
 -- the first seat has given the place back: it is spent (own)
 abbrev pub Shut : {T : Type 0} → Sat T → Type 0
@@ -222,7 +222,7 @@ pub record IsOpened {T : Type 0} (value : T) (me : Sat T) : Type 0 where
 -- the publisher of a new cell, with all grants (own)
 abbrev pub opener : {T : Type 0} → T → ℕ → RoomSpot T → Publishing T
 opener value name spot =
-    record { published = value ∷ []; how = Probing 0; next = None; share = None; left = grants; noted = 0; readers = 0; fixed = None; swept = 0; found = []; guests = []; name = name; spot = spot }
+    record { published = value ∷ []; how = Probing 0; next = None; share = None; left = grants; noted = 0; readers = 0; fixed = None; swept = 0; busy = false; found = []; guests = []; name = name; spot = spot }
 
 -- the second look at W: the first value is published (own)
 abbrev pub Offered : {T : Type 0} → T → ℕ → RoomSpot T → Sat T → Type 0

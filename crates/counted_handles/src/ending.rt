@@ -1,5 +1,5 @@
 //! The end of a cell: the publisher takes the last version out where nobody else has a share of any version or may take one.
-ghost use Rattle.std.specs.Prelude.{◌≡◌, ℕ, ◌+◌, ◌<◌, [], ◌∷◌, Some, MatchBool, MatchOption};
+ghost use Rattle.std.specs.Prelude.{◌≡◌, ℕ, ◌+◌, ◌<◌, [], ◌∷◌, Some, true, MatchBool, MatchOption, IfOk, IfErr};
 ghost use Rattle.cell_core.specs.Words.{slots, given_of};
 ghost use Rattle.cell_core.specs.declared.words.Version.{Version};
 ghost use Rattle.counted_handles.specs.declared.view.Publishing.{Publishing};
@@ -27,7 +27,7 @@ fn pass<T, C: Names<T>>(
     requires fits { Fits words.now.table_id × (seat.old.table_id ≡ words.now.table_id) × (seat.old.id ≡ 0) × (slot < slots) }
     requires due { (p : Publishing T) × (word : ℕ) × IsSweeping p word last slot seat.old.me }
     ensures seat { (seat.new.table_id ≡ seat.old.table_id) × (seat.new.id ≡ seat.old.id) }
-    ensures passed { (p : Publishing T) (word : ℕ) → IsSweeping p word last slot seat.old.me → MatchBool result (seat.new.me ≡ (Publishes (record p { swept = p.swept + 1 }), [])) (seat.new.me ≡ (Publishes p, [])) }
+    ensures passed { (p : Publishing T) (word : ℕ) → IsSweeping p word last slot seat.old.me → MatchBool result (seat.new.me ≡ (Publishes (record p { swept = p.swept + 1 }), [])) (seat.new.me ≡ (Publishes (record p { busy = true }), [])) }
 {
     if slot == last {
         return words.load::<plays::Skips>(seat, slot + slot + 2) == 1;
@@ -44,7 +44,7 @@ fn sweep<T, C: Names<T>>(
     requires fits { Fits words.now.table_id × (seat.old.table_id ≡ words.now.table_id) × (seat.old.id ≡ 0) }
     requires due { (p : Publishing T) × (word : ℕ) × IsSweeping p word last 0 seat.old.me }
     ensures seat { (seat.new.table_id ≡ seat.old.table_id) × (seat.new.id ≡ seat.old.id) }
-    ensures swept { (p : Publishing T) (word : ℕ) → IsSweeping p word last 0 seat.old.me → MatchBool result (seat.new.me ≡ (Publishes (record p { swept = slots }), [])) ((swept : ℕ) × (seat.new.me ≡ (Publishes (record p { swept = swept }), []))) }
+    ensures swept { (p : Publishing T) (word : ℕ) → IsSweeping p word last 0 seat.old.me → MatchBool result (seat.new.me ≡ (Publishes (record p { swept = slots }), [])) ((swept : ℕ) × (seat.new.me ≡ (Publishes (record p { swept = swept; busy = true }), []))) }
 {
     let mut slot = 0;
     while slot < SLOTS {
@@ -67,7 +67,7 @@ fn part<T, C: Names<T>>(
     requires fits { Fits words.now.table_id × (seat.old.table_id ≡ words.now.table_id) × (seat.old.id ≡ 0) × (last < slots) }
     requires due { (p : Publishing T) × (word : ℕ) × IsSweeping p word last slots seat.old.me × (given_of word ≡ given) }
     ensures seat { (seat.new.table_id ≡ seat.old.table_id) × (seat.new.id ≡ seat.old.id) }
-    ensures parted { (p : Publishing T) (word : ℕ) → IsSweeping p word last slots seat.old.me → given_of word ≡ given → MatchBool result (IsEnding p last seat.new.me) (seat.new.me ≡ (Publishes p, [])) }
+    ensures parted { (p : Publishing T) (word : ℕ) → IsSweeping p word last slots seat.old.me → given_of word ≡ given → MatchBool result (IsEnding p last seat.new.me) (seat.new.me ≡ (Publishes (record p { busy = true }), [])) }
 {
     words.load::<plays::Ends>(seat, last + last + 1) == BULK - given
 }
@@ -118,23 +118,29 @@ fn shut<T, C: Names<T>>(words: &Words<T, C>, seat: &mut Seat<Room<T>, View<T>>, 
     words.load::<plays::Shuts>(seat, 0);
 }
 
-/// The value published last, where nobody has a share of a version: the publisher's token is then spent. None where somebody has.
-pub fn end<T, C: Names<T>>(words: &Words<T, C>, badge: &mut Badge<View<T>>) -> Option<T>
+/// A receipt: a load of a cell's word has shown that somebody has a version, weakly or not. Only an attempt to end the cell gives one.
+#[derive(Drop)]
+pub struct InUse(());
+
+/// The value published last, where nobody has a version: the publisher's token is then spent. [`InUse`] where a load has shown that
+/// somebody has one.
+pub fn end<T, C: Names<T>>(words: &Words<T, C>, badge: &mut Badge<View<T>>) -> Result<T, InUse>
     requires fits { Fits words.now.table_id × (badge.old.table_id ≡ words.now.table_id) × (badge.old.id ≡ 0) }
     requires alone { (p : Publishing T) × CanEnd p badge.old.views × (p.name ≡ words.now.table_id.views_name) }
     ensures badge { (badge.new.table_id ≡ badge.old.table_id) × (badge.new.id ≡ badge.old.id) }
-    ensures ended { (p : Publishing T) → CanEnd p badge.old.views → MatchOption result (IsLike p badge.new.views) (λ value. IsLastValue p.published value × (badge.new.views ≡ Gone ∷ [])) }
+    ensures ended { IfOk result (λ value. (p : Publishing T) → CanEnd p badge.old.views → IsLastValue p.published value × (badge.new.views ≡ Gone ∷ [])) }
+    ensures in_use { IfErr result (λ _. (p : Publishing T) → CanEnd p badge.old.views → IsLike p badge.new.views) }
 {
     let mut seat = mem::replace(badge, Badge::blank()).into_seat();
     let Some(last) = part_last(words, &mut seat) else {
         *badge = seat.into_badge();
-        return None;
+        return Err(InUse(()));
     };
     let version = vacate(words, &mut seat, last);
     shut(words, &mut seat, last);
     *badge = seat.into_badge();
     match version {
-        Some(version) => Some(version.value),
+        Some(version) => Ok(version.value),
         None => unreachable!(),
     }
 }

@@ -15,7 +15,31 @@ use crate::rule::Room;
 use crate::view::View;
 use atomic_table::{Badge, Seat};
 use cell_core::SLOTS;
+use std::marker::Model;
 use std::mem;
+
+/// How many slots one load of each found free. Contracts see the number. Only [`find_free`] gives one.
+#[derive(Debug, Drop)]
+pub struct FreeCount {
+    count: usize,
+}
+
+impl Model for FreeCount {
+    ghost use Rattle.std.specs.Prelude.{ℕ};
+
+    ghost Value = { ℕ };
+
+    ghost view = { λ a. a.count };
+}
+
+impl FreeCount {
+    /// The number.
+    pub fn number(&self) -> usize
+        ensures { result ≡ self.now }
+    {
+        self.count
+    }
+}
 
 // One load of a slot's S: whether it is free. Its place stays where it is.
 fn scan<T, C: Names<T>>(words: &Words<T, C>, seat: &mut Seat<Room<T>, View<T>>, slot: usize) -> bool
@@ -47,7 +71,7 @@ fn scan_all<T, C: Names<T>>(words: &Words<T, C>, seat: &mut Seat<Room<T>, View<T
 }
 
 /// How many slots are free. Nobody but this publisher takes one, so it can publish as often, whatever else happens. It waits for nobody.
-pub fn find_free<T, C: Names<T>>(words: &Words<T, C>, badge: &mut Badge<View<T>>) -> usize
+pub fn find_free<T, C: Names<T>>(words: &Words<T, C>, badge: &mut Badge<View<T>>) -> FreeCount
     requires fits { Fits words.now.table_id × (badge.old.table_id ≡ words.now.table_id) × (badge.old.id ≡ 0) }
     requires due { (p : Publishing T) × CanPublish p badge.old.views }
     ensures badge { (badge.new.table_id ≡ badge.old.table_id) × (badge.new.id ≡ badge.old.id) }
@@ -57,5 +81,5 @@ pub fn find_free<T, C: Names<T>>(words: &Words<T, C>, badge: &mut Badge<View<T>>
     let mut seat = mem::replace(badge, Badge::blank()).into_seat();
     let count = scan_all(words, &mut seat);
     *badge = seat.into_badge();
-    count
+    FreeCount { count }
 }

@@ -57,7 +57,7 @@ impl Model for Lapsing {
 
 /// The token of a weak owner. It can't be dropped: who has one gives it to a release.
 pub(crate) struct WeakToken<T> {
-    pub(crate) badge: Badge<View<T>>,
+    badge: Badge<View<T>>,
 }
 
 impl<T> WeakToken<T> {

@@ -27,8 +27,8 @@ mod view;
 mod weak;
 
 pub use calls::Words;
-pub use ending::end;
-pub use found::find_free;
+pub use ending::{InUse, end};
+pub use found::{FreeCount, find_free};
 pub use grants::{deal, deal_rest, give_back, take_in};
 pub use lapsed::{Lapse, Lapsed};
 pub use made::{Made, make};

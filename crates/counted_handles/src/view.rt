@@ -77,6 +77,8 @@ pub struct Publishing<T> {
     pub fixed: Option<u64>,
     /// So many slots, from the first one on, were seen free since then, beside the one in W.
     pub swept: u64,
+    /// Whether a load since then has shown that somebody has a version.
+    pub busy: bool,
     /// Slots that it has seen free, and hasn't taken since: nobody else takes one.
     pub found: LinkedList<usize>,
     /// The readers that it has taken in and is to give back, the last one first.

@@ -41,7 +41,7 @@ impl<'a, M: Messages, A: Handler<M> + Drop, C> Drop for CountingConnections<'a, 
     }
 }
 
-impl<'a, M: Messages, A: Handler<M> + Drop, C: Clock> CountingConnections<'a, M, A, C> {
+impl<'a, M: Messages, A: Handler<M>, C: Clock> CountingConnections<'a, M, A, C> {
     /// Counts what this handler answers. The first peer asks from this address.
     pub fn new(
         inner: A,
@@ -163,7 +163,7 @@ fn ended_by(reason: ConnectionEnd, tally: Tally) -> u64 {
     }
 }
 
-impl<'a, M: Messages, A: Handler<M> + Drop, C: Clock> Handler<CountedMessages<'a, M>>
+impl<'a, M: Messages, A: Handler<M>, C: Clock> Handler<CountedMessages<'a, M>>
     for CountingConnections<'a, M, A, C> {
     ghost seen = { λ counting. A.seen counting.inner };
 
@@ -198,9 +198,14 @@ impl<'a, M: Messages, A: Handler<M> + Drop, C: Clock> Handler<CountedMessages<'a
             Err(end) => Err(end),
         }
     }
+
+    // It is counted in its turn, when its reply is made.
+    fn prepare<R: Wait>(&mut self, rt: &R, between: usize, request: &[u8], out: &mut [u8]) -> bool {
+        self.inner.prepare(rt, between, request, out)
+    }
 }
 
-impl<'a, M: Messages, A: Handler<M> + Drop, C: Clock> Resting<CountedMessages<'a, M>>
+impl<'a, M: Messages, A: Handler<M>, C: Clock> Resting<CountedMessages<'a, M>>
     for CountingConnections<'a, M, A, C> {
     fn rest(&mut self, tally: Tally) {
         if tally != self.tally {

@@ -20,14 +20,8 @@ impl<'a, 's, Z: FirstZone, N: ServerName, L: ServiceLog> Resting<Transfer>
     fn rest(&mut self, _tally: Tally) {}
 }
 
-impl<
-    'r,
-    'k,
-    K: KeyRing,
-    M: Messages,
-    A: Handler<M> + Drop,
-    C: UnixClock,
-    O: TsigLog + Drop,
-> Resting<SignedMessages<'k, M>> for SignedConnections<'r, 'k, K, M, A, C, O> {
+impl<'r, 'k, K: KeyRing, M: Messages, A: Handler<M>, C: UnixClock, O: TsigLog + Drop> Resting<
+    SignedMessages<'k, M>,
+> for SignedConnections<'r, 'k, K, M, A, C, O> {
     fn rest(&mut self, _tally: Tally) {}
 }

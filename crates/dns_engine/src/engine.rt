@@ -214,7 +214,7 @@ impl<'a, Z: FirstZone, N: Naming> Engine<'a, Z, N> {
     {
         let numbers = u64::MAX - self.number();
         let owners = self.publisher.left().min(self.reader.left());
-        let slots = cell.count(&mut self.publisher);
+        let slots = cell.count(&mut self.publisher).number();
         (slots as u64).min(owners).min(numbers)
     }
 

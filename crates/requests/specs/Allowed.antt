@@ -15,7 +15,6 @@ use Rattle.rights.specs.declared.rule.Rule.{Rule}
 use Rattle.serve_core.specs.Transport.{is_stream}
 use Rattle.serve_core.specs.declared.peer.Peer.{Peer}
 use Rattle.serve_core.specs.declared.transport.Transport.{Transport}
-use Rattle.requests.specs.Served.{Learned}
 use Rattle.requests.specs.declared.uncovered.Uncovered.{Uncovered}
 
 -- who asks from an address, whatever its port, over a transport
@@ -55,8 +54,8 @@ pub record IsPeer (rules : List Rule) (transport : Transport) (from : SocketAddr
   pub update : peer.may_update ≡ is_update request && permits rules (requestor_at transport from) (reads request)
   pub transfer : peer.may_transfer ≡ may_transfer rules (requestor_at transport from)
 
--- what a reply is, by the address that the request comes from: the reply to the peer that rules make of who sends that request from there
-abbrev pub IsReplyFrom : {T : Type 0} → (Peer → Learned T → Learned T → List ℕ → List (List ℕ) → Type 0) → List Rule → Transport → SocketAddr → Learned T → Learned T → List ℕ → List (List ℕ) → Type 0
+-- what a reply is, by what is known before it and when it is made, and by the address that the request comes from: the reply to the peer that rules make of who sends that request from there
+abbrev pub IsReplyFrom : {K : Type 0} → (Peer → K → K → List ℕ → List (List ℕ) → Type 0) → List Rule → Transport → SocketAddr → K → K → List ℕ → List (List ℕ) → Type 0
 IsReplyFrom IsReply rules transport from known later request messages = (peer : Peer) × IsPeer rules transport from request peer × IsReply peer known later request messages
 
 -- which requests are answered later, by the address that they come from

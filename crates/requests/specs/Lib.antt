@@ -3,4 +3,3 @@ pub mod Datagrams
 pub mod Exchanged
 pub mod Octets
 pub mod Served
-pub mod Exchange

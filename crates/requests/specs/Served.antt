@@ -1,8 +1,5 @@
--- What is written on a stream: the replies to its requests, in their order (RFC 1035, 4.2.2).
-use Rattle.std.specs.Prelude.{◌≡◌, ℕ, List, [], ◌∷◌, ◌++◌, Option, Some}
-use Rattle.requests.specs.Octets.{frames_of, IsTorn}
-use Rattle.requests.specs.declared.stream_end.StreamEnd.{StreamEnd}
-use Rattle.requests.specs.declared.stream_end.StreamEnd.TheVariants.{Clean, Torn, Device, Spent, NoMemory}
+-- What is known of values that are published one after another (own).
+use Rattle.std.specs.Prelude.{◌≡◌, ℕ, List, ◌++◌}
 
 -- a list begins with another one
 abbrev pub BeginsWith : {T : Type 0} → List T → List T → Type 0
@@ -22,40 +19,3 @@ pub record Learned (T : Type 0) : Type 0 where
 pub record Grows {T : Type 0} (later before : Learned T) : Type 0 where
   pub published : BeginsWith later.published before.published
   pub buried : EndsWith later.buried before.buried
-
--- what a reply is, by what is known before it and when it is made, the request, and the reply's messages
-module _ {T : Type 0} (IsReply : Learned T → Learned T → List ℕ → List (List ℕ) → Type 0) where
-  -- requests, the frames of their replies in order, and what is known then: nothing that was known before a reply is forgotten
-  pub data Answers (start : Learned T) : List (List ℕ) → List ℕ → Learned T → Type 0 where
-    none : Answers start [] [] start
-    next : {requests more : List (List ℕ)} {octets longer : List ℕ} {seen before later : Learned T} {request : List ℕ} {messages : List (List ℕ)} → Answers start requests octets seen
-        → Grows before seen → Grows later before → IsReply before later request messages → more ≡ requests ++ request ∷ [] → longer ≡ octets ++ frames_of messages → Answers start more longer later
-
-  -- between two states of a stream, all frames that were read have been answered
-  pub record Served (start : Learned T) (old : List ℕ × List ℕ) (seen : Learned T) (new : List ℕ × List ℕ) : Type 0 where
-    pub requests : List (List ℕ)
-    pub octets : List ℕ
-    pub last : Learned T
-    pub answers : Answers start requests octets last
-    pub grown : Grows seen last
-    pub input : old.0 ≡ frames_of requests ++ new.0
-    pub output : new.1 ≡ old.1 ++ octets
-
-  -- a prefix of what such an answering writes has been written
-  pub record PartlyServed (start : Learned T) (old : List ℕ × List ℕ) (seen : Learned T) (new : Option (List ℕ × List ℕ)) : Type 0 where
-    pub left : List ℕ
-    pub front : List ℕ
-    pub back : List ℕ
-    pub whole : List ℕ × List ℕ
-    pub served : Served start old seen whole
-    pub written : whole.1 ≡ (old.1 ++ front) ++ back
-    pub now : new ≡ Some (left, old.1 ++ front)
-
-  -- how a stream ends: with all its frames answered, nothing or a torn frame after them, and nothing left to be read; otherwise with a
-  -- prefix of the replies written
-  abbrev pub EndsAs : StreamEnd → Learned T → List ℕ × List ℕ → Learned T → Option (List ℕ × List ℕ) → Type 0
-  EndsAs Clean start old seen new = (written : List ℕ) × (new ≡ Some ([], written)) × Served start old seen ([], written)
-  EndsAs Torn start old seen new = (torn written : List ℕ) × (new ≡ Some ([], written)) × IsTorn torn × Served start old seen (torn, written)
-  EndsAs Device start old seen new = PartlyServed start old seen new
-  EndsAs Spent start old seen new = PartlyServed start old seen new
-  EndsAs NoMemory start old seen new = PartlyServed start old seen new

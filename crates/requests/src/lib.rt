@@ -1,9 +1,8 @@
 //! Requests and replies on streams and by datagrams (RFC 1035, 4.2), with no device and no zone.
 //!
 //! [`serve_datagrams`] answers requests in datagrams one after another, and [`serve_udp`] the same through a [`Gate`]. For a device that reports its datagrams, its contract says what is sent:
-//! the replies, in order, each to the client that sent the request (`EndsBy`). A [`Handler`] says what a reply is. For streams, this crate
-//! has their octets, the count of their failures ([`Counted`]), and what is written on a stream by the time it ends: the frames of the
-//! replies, in order, all of them or a prefix (`EndsAs`). `tcp_connections` serves streams.
+//! the replies, in order, each to the client that sent the request (`EndsBy`). A [`Handler`] says what a reply is. For streams, which
+//! `tcp_connections` serves, this crate has their octets and the count of their failures ([`Counted`]).
 #![tactic(auto)]
 
 mod allowed;

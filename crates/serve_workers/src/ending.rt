@@ -24,6 +24,7 @@ pub(crate) fn end_cell<R: Wait, T: Drop, C: Names<T>>(
             cell,
             publisher,
             readers,
+            in_use: _,
         } = match tried {
             Ok(_) => return,
             Err(out) => out,
@@ -46,6 +47,7 @@ pub(crate) fn end_named<R: Wait, T: Drop, C: Names<T>, N: Naming>(
             cell,
             publisher,
             readers,
+            in_use: _,
         } = match tried {
             Ok(_) => return,
             Err(out) => out,

@@ -115,11 +115,11 @@ fn serve_connections<'g, 's, R: Wait, Z: FirstZone, N: ServerName, L: ServiceLog
     let handler = handler.with_rules(job.allowed());
     let mut handler = handler.with_sender(sender);
     let end = job.serve(rt, &mut handler, log);
-    (handler.into_reader(), end)
+    (handler.into_reader(rt), end)
 }
 
 /// Does a job on connections with a handler, and counts the requests. Gives the handler back, and how the job ended.
-fn serve_counting<'g, R: Wait, M: Messages, A: Handler<M> + Drop, L: ServiceLog, C: Clock>(
+fn serve_counting<'g, R: Wait, M: Messages, A: Handler<M>, L: ServiceLog, C: Clock>(
     rt: &R,
     log: &'g L,
     handler: A,
@@ -155,7 +155,7 @@ fn serve_counted_connections<'g, 's, R: Wait, Z: FirstZone, N: ServerName, L: Se
     let handler = handler.with_sender(sender);
     let counts = ThreadCounts::new(counted.shown, counted.clock);
     let (handler, end) = serve_counting(rt, log, handler, counts, &mut counted.job);
-    (handler.into_reader(), end)
+    (handler.into_reader(rt), end)
 }
 
 /// Does a job on a UDP socket whose requests may be signed, as [`serve_datagrams`] does.
@@ -249,7 +249,7 @@ fn serve_signed_connections<
         nobody(),
     );
     let end = signed.job.serve(rt, &mut handler, log);
-    (handler.into_inner().into_reader(), end)
+    (handler.into_inner().into_reader(rt), end)
 }
 
 /// Does a job on connections whose requests may be signed and are counted, as [`serve_signed_connections`] does.
@@ -297,7 +297,7 @@ fn serve_counted_signed<
     );
     let counts = ThreadCounts::new(signed.job.shown, signed.job.clock);
     let (handler, end) = serve_counting(rt, log, handler, counts, &mut signed.job.job);
-    (handler.into_inner().into_reader(), end)
+    (handler.into_inner().into_reader(rt), end)
 }
 
 /// Does a job that notifies secondaries, with a handler that loads versions for it by a reader. Gives the reader back, and how the job ended.

@@ -2,7 +2,7 @@
 ghost use Rattle.std.specs.Prelude.{◌≡◌, Some, IfOk};
 ghost use Rattle.requests.specs.Served.{Grows};
 
-use crate::control_reload::{Reload, Step, after_judging, after_making, order};
+use crate::control_reload::{Reload, Step, abandon, after_judging, after_making, order};
 use crate::control_text::{ServedSince, StoreStatus, done, failed, stats, status};
 use crate::process_files::ProcessFiles;
 use crate::reload_slot::{ReloadOrder, Reloads};
@@ -70,7 +70,6 @@ pub struct ControlJob<'a, C> {
     /// What the server's threads count, if they do.
     counters: Option<&'a ServerCounters>,
     clients: Vec<ControlClient>,
-    reload: Reload,
     clock: &'a C,
     shutdown: &'a Shutdown,
     /// When it was made, in milliseconds of a monotonic clock.
@@ -88,7 +87,6 @@ impl<'a, C> Drop for ControlJob<'a, C> {
             plan: _,
             counters: _,
             clients: _,
-            reload: _,
             clock: _,
             shutdown: _,
             begun: _,
@@ -97,6 +95,14 @@ impl<'a, C> Drop for ControlJob<'a, C> {
             end: _,
         } = self;
     }
+}
+
+/// How a look ends.
+enum Look {
+    /// The job goes on, with the reload that is under way.
+    GoesOn(Reload),
+    /// It has ended so.
+    Ends(JobEnd),
 }
 
 /// What a command's client gets.
@@ -126,7 +132,6 @@ impl<'a, C: Clock> ControlJob<'a, C> {
             plan,
             counters,
             clients: Vec::with_capacity(alloc, CLIENTS)?,
-            reload: Reload::Idle,
             clock,
             shutdown,
             begun: millis_of(clock),
@@ -154,38 +159,43 @@ impl<'a, C: Clock> ControlJob<'a, C> {
         ensures end { self.new.end ≡ Some result }
         ensures number { self.new.number ≡ self.old.number }
     {
+        let mut reload = Reload::Idle;
         for _ in rt.forever() {
-            if let Some(end) = self.look(rt, handler, log) {
-                self.end = Some(end);
-                return end;
+            match self.look(rt, handler, log, reload) {
+                Look::GoesOn(next) => reload = next,
+                Look::Ends(end) => {
+                    self.end = Some(end);
+                    return end;
+                }
             }
         }
         unreachable!()
     }
 
-    /// Does what there is to do, and waits. Gives the end where the server was to end before.
+    /// Does what there is to do, and waits. Gives the end where the server was to end before: then the reload is given up.
     fn look<R: Wait, A: LocalUpdates, L: ServiceLog>(
         &mut self,
         rt: &R,
         handler: &mut A,
         log: &L,
-    ) -> Option<JobEnd>
+        reload: Reload,
+    ) -> Look
         ensures grows { Grows (A.seen handler.new) (A.seen handler.old) }
         ensures number { self.new.number ≡ self.old.number }
     {
         let is_over = self.shutdown.is_ending() || self.shutdown.has_left(self.plan.beside);
         let now = millis_of(self.clock);
         self.accept(now);
-        self.hear(rt, handler, now);
-        self.go_on(rt, handler, log, now);
+        let reload = self.hear(rt, handler, reload, now);
+        let reload = self.go_on(rt, handler, log, reload, now);
         if is_over {
-            self.give_up(rt, handler, now);
+            self.give_up(rt, handler, reload, now);
             self.write_replies(now);
-            return Some(JobEnd::Done(self.obeyed));
+            return Look::Ends(JobEnd::Done(self.obeyed));
         }
         self.write_replies(now);
         thread::sleep(self.clock, Duration::from_millis(LOOK));
-        None
+        Look::GoesOn(reload)
     }
 
     /// Writes what the clients take of their replies. Those with which nothing is left to do are dropped.
@@ -212,30 +222,47 @@ impl<'a, C: Clock> ControlJob<'a, C> {
         }
     }
 
-    /// Reads what the clients have sent, and obeys their commands.
-    fn hear<R: Wait, A: LocalUpdates>(&mut self, rt: &R, handler: &mut A, now: u64)
+    /// Reads what the clients have sent, and obeys their commands. Gives how far the reload is then.
+    fn hear<R: Wait, A: LocalUpdates>(
+        &mut self,
+        rt: &R,
+        handler: &mut A,
+        reload: Reload,
+        now: u64,
+    ) -> Reload
         ensures grows { Grows (A.seen handler.new) (A.seen handler.old) }
         ensures number { self.new.number ≡ self.old.number }
     {
+        let mut reload = reload;
         for at in 0..self.clients.len() {
-            self.hear_at(rt, handler, at, now);
+            reload = self.hear_at(rt, handler, reload, at, now);
         }
+        reload
     }
 
-    /// Reads what the client at a place has sent, and obeys its command once that is whole.
-    fn hear_at<R: Wait, A: LocalUpdates>(&mut self, rt: &R, handler: &mut A, at: usize, now: u64)
+    /// Reads what the client at a place has sent, and obeys its command once that is whole. Gives how far the reload is then.
+    fn hear_at<R: Wait, A: LocalUpdates>(
+        &mut self,
+        rt: &R,
+        handler: &mut A,
+        reload: Reload,
+        at: usize,
+        now: u64,
+    ) -> Reload
         ensures grows { Grows (A.seen handler.new) (A.seen handler.old) }
         ensures number { self.new.number ≡ self.old.number }
     {
-        let obeyed = match self.heard_from(at, now) {
-            Heard::Nothing => return,
-            Heard::Unknown => {
-                replied(failed(self.alloc, "no command: reload, status, stats or stop"))
-            }
-            Heard::Command(command) => self.obey(rt, handler, command),
+        let (reload, obeyed) = match self.heard_from(at, now) {
+            Heard::Nothing => return reload,
+            Heard::Unknown => (
+                reload,
+                replied(failed(self.alloc, "no command: reload, status, stats or stop")),
+            ),
+            Heard::Command(command) => self.obey(rt, handler, reload, command),
         };
         self.obeyed = self.obeyed.saturating_add(1);
         self.settle(at, obeyed, now);
+        reload
     }
 
     /// What the client at a place has sent.
@@ -262,34 +289,47 @@ impl<'a, C: Clock> ControlJob<'a, C> {
         }
     }
 
-    /// Obeys a command.
+    /// Obeys a command. Gives how far the reload is then, and what the command's client gets.
     fn obey<R: Wait, A: LocalUpdates>(
         &mut self,
         rt: &R,
         handler: &mut A,
+        reload: Reload,
         command: ControlCommand,
-    ) -> Result<Obeyed, AllocError>
+    ) -> (Reload, Result<Obeyed, AllocError>)
         ensures grows { Grows (A.seen handler.new) (A.seen handler.old) }
         ensures number { self.new.number ≡ self.old.number }
     {
         match command {
-            ControlCommand::Reload => self.begin_reload(rt, handler),
+            ControlCommand::Reload => self.begin_reload(rt, handler, reload),
             ControlCommand::Stop => {
                 self.shutdown.end();
-                Ok(Obeyed::Reply(done(self.alloc)?))
+                (reload, replied(done(self.alloc)))
             }
-            ControlCommand::Status | ControlCommand::Stats => {
-                let Ok(version) = handler.last_version(rt) else {
-                    return Ok(Obeyed::Reply(failed(self.alloc, "no version can be loaded")?));
-                };
-                let text = if command == ControlCommand::Stats {
-                    self.stats(rt, version.get())?
-                } else {
-                    self.status(rt, version.get())?
-                };
-                Ok(Obeyed::Reply(text))
-            }
+            ControlCommand::Status => (reload, self.tell(rt, handler, false)),
+            ControlCommand::Stats => (reload, self.tell(rt, handler, true)),
         }
+    }
+
+    /// Tells what is served, or the lines for Prometheus.
+    fn tell<R: Wait, A: LocalUpdates>(
+        &mut self,
+        rt: &R,
+        handler: &mut A,
+        has_lines: bool,
+    ) -> Result<Obeyed, AllocError>
+        ensures grows { Grows (A.seen handler.new) (A.seen handler.old) }
+        ensures number { self.new.number ≡ self.old.number }
+    {
+        let Ok(version) = handler.last_version(rt) else {
+            return replied(failed(self.alloc, "no version can be loaded"));
+        };
+        let text = if has_lines {
+            self.stats(rt, version.get())?
+        } else {
+            self.status(rt, version.get())?
+        };
+        Ok(Obeyed::Reply(text))
     }
 
     /// What is served, a line for each of it.
@@ -340,47 +380,57 @@ impl<'a, C: Clock> ControlJob<'a, C> {
         stats(self.alloc, &lines)
     }
 
-    /// Begins a reload, if none is under way.
+    /// Begins a reload, if none is under way. Gives how far it is then, and what the command's client gets.
     fn begin_reload<R: Wait, A: LocalUpdates>(
         &mut self,
         rt: &R,
         handler: &mut A,
-    ) -> Result<Obeyed, AllocError>
+        reload: Reload,
+    ) -> (Reload, Result<Obeyed, AllocError>)
         ensures grows { Grows (A.seen handler.new) (A.seen handler.old) }
         ensures number { self.new.number ≡ self.old.number }
     {
         let Some(slot) = &self.plan.reloads else {
-            return Ok(Obeyed::Reply(failed(self.alloc, "the zone came by standard input")?));
+            let text = failed(self.alloc, "the zone came by standard input");
+            return (reload, replied(text));
         };
-        if self.reload != Reload::Idle {
-            return Ok(Obeyed::Reply(failed(self.alloc, "a reload is under way")?));
-        }
-        match order(rt, self.alloc, handler, slot)? {
-            Step::GoesOn(reload) => {
-                self.reload = reload;
-                Ok(Obeyed::Later)
+        match reload {
+            Reload::Idle => {}
+            under_way => {
+                return (
+                    under_way,
+                    replied(failed(self.alloc, "a reload is under way")),
+                );
             }
-            Step::Done(text) => Ok(Obeyed::Reply(text)),
-            Step::Failed(reason) => Ok(Obeyed::Reply(failed(self.alloc, reason.as_str())?)),
+        }
+        match order(rt, self.alloc, handler, slot) {
+            Ok(Step::GoesOn(begun)) => (begun, Ok(Obeyed::Later)),
+            Ok(Step::Done(text)) => (Reload::Idle, Ok(Obeyed::Reply(text))),
+            Ok(Step::Failed(reason)) => (
+                Reload::Idle,
+                replied(failed(self.alloc, reason.as_str())),
+            ),
+            Err(fault) => (Reload::Idle, Err(fault)),
         }
     }
 
-    /// Goes on with the reload, if one is under way. Once it is over, its client gets its reply.
+    /// Goes on with the reload, if one is under way, and gives how far it is then. Once it is over, its client gets its reply.
     fn go_on<R: Wait, A: LocalUpdates, L: ServiceLog>(
         &mut self,
         rt: &R,
         handler: &mut A,
         log: &L,
+        reload: Reload,
         now: u64,
-    )
+    ) -> Reload
         ensures grows { Grows (A.seen handler.new) (A.seen handler.old) }
         ensures number { self.new.number ≡ self.old.number }
     {
         let Some(slot) = &self.plan.reloads else {
-            return;
+            return reload;
         };
-        let step = match self.reload {
-            Reload::Idle => return,
+        let step = match reload {
+            Reload::Idle => return Reload::Idle,
             Reload::Made { is_held } => after_making(rt, self.alloc, handler, slot, is_held),
             Reload::Judged {
                 ticket,
@@ -396,10 +446,7 @@ impl<'a, C: Clock> ControlJob<'a, C> {
             ),
         };
         let text = match step {
-            Ok(Step::GoesOn(reload)) => {
-                self.reload = reload;
-                return;
-            }
+            Ok(Step::GoesOn(next)) => return next,
             Ok(Step::Done(text)) => Ok(text),
             Ok(Step::Failed(reason)) => {
                 let text = failed(self.alloc, reason.as_str());
@@ -408,10 +455,10 @@ impl<'a, C: Clock> ControlJob<'a, C> {
             }
             Err(fault) => Err(fault),
         };
-        self.reload = Reload::Idle;
         // The zone that was read isn't needed any more.
         let _ = slot.order(rt, ReloadOrder::Drop);
         self.reply_waiting(text, now);
+        Reload::Idle
     }
 
     /// Gives the client that waits for the reload's end this reply.
@@ -425,17 +472,18 @@ impl<'a, C: Clock> ControlJob<'a, C> {
     }
 
     /// Gives up the reload that is under way, since the server ends.
-    fn give_up<R: Wait, A: LocalUpdates>(&mut self, rt: &R, handler: &mut A, now: u64)
+    fn give_up<R: Wait, A: LocalUpdates>(
+        &mut self,
+        rt: &R,
+        handler: &mut A,
+        reload: Reload,
+        now: u64,
+    )
         ensures grows { Grows (A.seen handler.new) (A.seen handler.old) }
         ensures number { self.new.number ≡ self.old.number }
     {
-        match self.reload {
-            Reload::Judged { ticket, .. } => handler.leave(rt, ticket),
-            Reload::Made { is_held: true } => handler.release(rt),
-            Reload::Made { is_held: false } | Reload::Idle => {}
-        }
-        if self.reload != Reload::Idle {
-            self.reload = Reload::Idle;
+        let is_under_way = abandon(rt, handler, reload);
+        if is_under_way {
             let text = failed(self.alloc, "the server is ending");
             self.reply_waiting(text, now);
         }

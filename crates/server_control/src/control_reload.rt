@@ -7,10 +7,9 @@ use dns_rdata::Rcode;
 use std::alloc::{AllocError, Global};
 use std::sync::Wait;
 use zone_change::ChangeSummary;
-use zone_server::{Event, LocalUpdates, Poll, Serials, ServiceLog, UpdateResult};
+use zone_server::{Event, Fetched, LocalUpdates, Serials, ServiceLog, UpdateResult, WaitingTicket};
 
-/// How far a reload is.
-#[derive(Clone, Copy, Debug, PartialEq, Eq)]
+/// How far a reload is. It can't be dropped: its update may wait for its result.
 pub(crate) enum Reload {
     /// There is none.
     Idle,
@@ -22,7 +21,7 @@ pub(crate) enum Reload {
     /// Its update waits for its result at this ticket.
     Judged {
         /// The ticket.
-        ticket: usize,
+        ticket: WaitingTicket,
         /// What the update changes.
         summary: ChangeSummary,
         /// Whether the other updates were held while it was made.
@@ -31,7 +30,6 @@ pub(crate) enum Reload {
 }
 
 /// The end of a step of a reload.
-#[derive(Drop)]
 pub(crate) enum Step {
     /// It goes on.
     GoesOn(Reload),
@@ -138,21 +136,21 @@ pub(crate) fn after_judging<R: Wait, A: LocalUpdates, L: ServiceLog>(
     handler: &mut A,
     slot: &Reloads,
     log: &L,
-    judged: (usize, ChangeSummary, bool),
+    judged: (WaitingTicket, ChangeSummary, bool),
 ) -> Result<Step, AllocError>
     ensures grows { Grows (A.seen handler.new) (A.seen handler.old) }
 {
     let (ticket, summary, is_held) = judged;
     let done = match handler.result_at(rt, ticket) {
-        Poll::Pending => {
+        Fetched::Pending(ticket) => {
             return Ok(Step::GoesOn(Reload::Judged {
                 ticket,
                 summary,
                 is_held,
             }));
         }
-        Poll::Unknown => return failed(alloc, "the update's result is lost"),
-        Poll::Ready(done) => done,
+        Fetched::Unknown => return failed(alloc, "the update's result is lost"),
+        Fetched::Ready(done) => done,
     };
     match done.code {
         Rcode::NoError => {
@@ -161,6 +159,28 @@ pub(crate) fn after_judging<R: Wait, A: LocalUpdates, L: ServiceLog>(
         }
         Rcode::NXRRSet if !is_held => order_held(rt, alloc, handler, slot),
         code => Ok(Step::Failed(refused(alloc, code)?)),
+    }
+}
+
+/// Abandons a reload, and says whether one was under way.
+pub(crate) fn abandon<R: Wait, A: LocalUpdates>(rt: &R, handler: &mut A, reload: Reload) -> bool
+    ensures grows { Grows (A.seen handler.new) (A.seen handler.old) }
+{
+    match reload {
+        Reload::Judged {
+            ticket,
+            summary: _,
+            is_held: _,
+        } => {
+            handler.leave(rt, ticket);
+            true
+        }
+        Reload::Made { is_held: true } => {
+            handler.release(rt);
+            true
+        }
+        Reload::Made { is_held: false } => true,
+        Reload::Idle => false,
     }
 }
 

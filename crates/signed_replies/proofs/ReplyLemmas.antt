@@ -44,19 +44,66 @@ too_few keys now request few =
     received_is keys now request (omega (arith, few))
     ∙ ap (λ b. if b then Silent else (if is_reply request then Silent else by_place keys now request (place_in request))) (fewer (length request) 12 few)
 
+-- what is known grows
+module _ {K : Type 0} (Grows : K → K → Type 0) (itself : (known : K) → Grows known known) where
+  -- nothing is replied to what isn't answered
+  pub silent_by : (keys : List SharedKey) (rights : List (List Rule)) (IsReply : Peer → K → K → List ℕ → List (List ℕ) → Type 0)
+      (AreSigned : SharedKey → ℕ → RequestTsig → ℕ → List (List ℕ) → List (List ℕ) → Type 0) (peer : Peer) (seen : K) (request : List ℕ)
+      → received keys 0 request ≡ Silent → IsReplyTo keys rights IsReply AreSigned Grows peer seen seen request []
+  silent_by keys rights IsReply AreSigned peer seen request is = (0, seen, itself seen, itself seen, subst (λ v. IsReplyBy keys rights IsReply AreSigned v 0 peer seen seen request []) (sym is) refl)
+
+  -- what a request gets by what it is, it gets
+  pub reply_by : (keys : List SharedKey) (rights : List (List Rule)) (IsReply : Peer → K → K → List ℕ → List (List ℕ) → Type 0)
+      (AreSigned : SharedKey → ℕ → RequestTsig → ℕ → List (List ℕ) → List (List ℕ) → Type 0) (verification : Verification) (now : ℕ) (peer : Peer)
+      (seen later : K) (request : List ℕ) (messages : List (List ℕ)) → verification ≡ received keys now request
+      → (before : K) × Grows before seen × Grows later before × IsReplyBy keys rights IsReply AreSigned verification now peer before later request messages
+      → IsReplyTo keys rights IsReply AreSigned Grows peer seen later request messages
+  reply_by keys rights IsReply AreSigned verification now peer seen later request messages is r = (now, r.0, r.1, r.2, subst (λ v. IsReplyBy keys rights IsReply AreSigned v now peer r.0 later request messages) is r.3)
+
+  -- what is replied without asking a handler is replied by what is known
+  pub at_once_by : (keys : List SharedKey) (rights : List (List Rule)) (IsReply : Peer → K → K → List ℕ → List (List ℕ) → Type 0)
+      (AreSigned : SharedKey → ℕ → RequestTsig → ℕ → List (List ℕ) → List (List ℕ) → Type 0) (verification said : Verification) (now : ℕ) (peer : Peer) (seen : K) (request : List ℕ) (messages : List (List ℕ))
+      → verification ≡ said → IsReplyBy keys rights IsReply AreSigned said now peer seen seen request messages
+      → (before : K) × Grows before seen × Grows seen before × IsReplyBy keys rights IsReply AreSigned verification now peer before seen request messages
+  at_once_by keys rights IsReply AreSigned verification said now peer seen request messages is reply =
+      (seen, itself seen, itself seen, subst (λ v. IsReplyBy keys rights IsReply AreSigned v now peer seen seen request messages) (sym is) reply)
+
+  -- and what a handler is asked for
+  pub then_by : (keys : List SharedKey) (rights : List (List Rule)) (IsReply : Peer → K → K → List ℕ → List (List ℕ) → Type 0)
+      (AreSigned : SharedKey → ℕ → RequestTsig → ℕ → List (List ℕ) → List (List ℕ) → Type 0) (verification said : Verification) (now : ℕ) (peer : Peer) (seen later : K) (request : List ℕ) (messages : List (List ℕ))
+      → verification ≡ said → (before : K) × Grows before seen × Grows later before × IsReplyBy keys rights IsReply AreSigned said now peer before later request messages
+      → (before : K) × Grows before seen × Grows later before × IsReplyBy keys rights IsReply AreSigned verification now peer before later request messages
+  then_by keys rights IsReply AreSigned verification said now peer seen later request messages is reply =
+      (reply.0, reply.1, reply.2, subst (λ v. IsReplyBy keys rights IsReply AreSigned v now peer reply.0 later request messages) (sym is) reply.3)
+
+-- what datagrams get
 -- nothing is replied to what isn't answered
 pub silent_to : {T : Type 0} (keys : List SharedKey) (rights : List (List Rule)) (IsReply : Peer → Learned T → Learned T → List ℕ → List (List ℕ) → Type 0)
     (AreSigned : SharedKey → ℕ → RequestTsig → ℕ → List (List ℕ) → List (List ℕ) → Type 0) (peer : Peer) (seen : Learned T) (request : List ℕ)
-    → received keys 0 request ≡ Silent → IsReplyTo keys rights IsReply AreSigned peer seen seen request []
-silent_to keys rights IsReply AreSigned peer seen request is = (0, seen, grows_itself seen, grows_itself seen, subst (λ v. IsReplyBy keys rights IsReply AreSigned v 0 peer seen seen request []) (sym is) refl)
+    → received keys 0 request ≡ Silent → IsReplyTo keys rights IsReply AreSigned Grows peer seen seen request []
+silent_to keys rights IsReply AreSigned peer seen request is = silent_by Grows grows_itself keys rights IsReply AreSigned peer seen request is
 
 -- what a request gets by what it is, it gets
 pub reply_to : {T : Type 0} (keys : List SharedKey) (rights : List (List Rule)) (IsReply : Peer → Learned T → Learned T → List ℕ → List (List ℕ) → Type 0)
     (AreSigned : SharedKey → ℕ → RequestTsig → ℕ → List (List ℕ) → List (List ℕ) → Type 0) (verification : Verification) (now : ℕ) (peer : Peer)
     (seen later : Learned T) (request : List ℕ) (messages : List (List ℕ)) → verification ≡ received keys now request
     → (before : Learned T) × Grows before seen × Grows later before × IsReplyBy keys rights IsReply AreSigned verification now peer before later request messages
-    → IsReplyTo keys rights IsReply AreSigned peer seen later request messages
-reply_to keys rights IsReply AreSigned verification now peer seen later request messages is r = (now, r.0, r.1, r.2, subst (λ v. IsReplyBy keys rights IsReply AreSigned v now peer r.0 later request messages) is r.3)
+    → IsReplyTo keys rights IsReply AreSigned Grows peer seen later request messages
+reply_to keys rights IsReply AreSigned verification now peer seen later request messages is r = reply_by Grows grows_itself keys rights IsReply AreSigned verification now peer seen later request messages is r
+
+-- what is replied without asking a handler is replied by what is known
+pub told_at_once : {T : Type 0} (keys : List SharedKey) (rights : List (List Rule)) (IsReply : Peer → Learned T → Learned T → List ℕ → List (List ℕ) → Type 0)
+    (AreSigned : SharedKey → ℕ → RequestTsig → ℕ → List (List ℕ) → List (List ℕ) → Type 0) (verification said : Verification) (now : ℕ) (peer : Peer) (seen : Learned T) (request : List ℕ) (messages : List (List ℕ))
+    → verification ≡ said → IsReplyBy keys rights IsReply AreSigned said now peer seen seen request messages
+    → (before : Learned T) × Grows before seen × Grows seen before × IsReplyBy keys rights IsReply AreSigned verification now peer before seen request messages
+told_at_once keys rights IsReply AreSigned verification said now peer seen request messages is reply = at_once_by Grows grows_itself keys rights IsReply AreSigned verification said now peer seen request messages is reply
+
+-- and what a handler is asked for
+pub told_then : {T : Type 0} (keys : List SharedKey) (rights : List (List Rule)) (IsReply : Peer → Learned T → Learned T → List ℕ → List (List ℕ) → Type 0)
+    (AreSigned : SharedKey → ℕ → RequestTsig → ℕ → List (List ℕ) → List (List ℕ) → Type 0) (verification said : Verification) (now : ℕ) (peer : Peer) (seen later : Learned T) (request : List ℕ) (messages : List (List ℕ))
+    → verification ≡ said → (before : Learned T) × Grows before seen × Grows later before × IsReplyBy keys rights IsReply AreSigned said now peer before later request messages
+    → (before : Learned T) × Grows before seen × Grows later before × IsReplyBy keys rights IsReply AreSigned verification now peer before later request messages
+told_then keys rights IsReply AreSigned verification said now peer seen later request messages is reply = then_by Grows grows_itself keys rights IsReply AreSigned verification said now peer seen later request messages is reply
 
 -- what is known when a handler is asked lies between what was known before and what is known then
 pub replied_as : {T E : Type 0} (IsReply : Peer → Learned T → Learned T → List ℕ → List (List ℕ) → Type 0) (peer : Peer) (seen mid later : Learned T) (request out : List ℕ) (made : Result (Option ℕ) E) → Grows mid seen
@@ -65,8 +112,8 @@ pub replied_as : {T E : Type 0} (IsReply : Peer → Learned T → Learned T → 
 replied_as IsReply peer seen mid later request out made first last said = IfOk-weaker made _ _ (λ len is. (mid, first, last, is)) said
 
 -- a reply whose messages are signed by the key that the request names
-pub signed_reply_by : {T : Type 0} (keys : List SharedKey) (rights : List (List Rule)) (IsReply : Peer → Learned T → Learned T → List ℕ → List (List ℕ) → Type 0)
-    (AreSigned : SharedKey → ℕ → RequestTsig → ℕ → List (List ℕ) → List (List ℕ) → Type 0) (found : Option SharedKey) (key : SharedKey) (now : ℕ) (tsig : RequestTsig) (peer : Peer) (before later : Learned T)
+pub signed_reply_by : {K : Type 0} (keys : List SharedKey) (rights : List (List Rule)) (IsReply : Peer → K → K → List ℕ → List (List ℕ) → Type 0)
+    (AreSigned : SharedKey → ℕ → RequestTsig → ℕ → List (List ℕ) → List (List ℕ) → Type 0) (found : Option SharedKey) (key : SharedKey) (now : ℕ) (tsig : RequestTsig) (peer : Peer) (before later : K)
     (request : List ℕ) (from : SocketAddr) (own : Peer) (plains messages : List (List ℕ)) → found ≡ Some key
     → IsPeer (rules_of rights tsig.key) peer.transport from (plain_of request tsig.start) own → IsReply own before later (plain_of request tsig.start) plains
     → AreSigned key now tsig (reply_limit peer.transport (plain_of request tsig.start)) plains messages → IsSignedReply keys rights IsReply AreSigned found now tsig peer before later request messages
@@ -74,31 +121,15 @@ signed_reply_by keys rights IsReply AreSigned found key now tsig peer before lat
     subst (λ f. IsSignedReply keys rights IsReply AreSigned f now tsig peer before later request messages) (sym is) (from, own, by, plains, reply, are)
 
 -- and none without a key
-pub signed_reply_none : {T : Type 0} (keys : List SharedKey) (rights : List (List Rule)) (IsReply : Peer → Learned T → Learned T → List ℕ → List (List ℕ) → Type 0)
-    (AreSigned : SharedKey → ℕ → RequestTsig → ℕ → List (List ℕ) → List (List ℕ) → Type 0) (found : Option SharedKey) (now : ℕ) (tsig : RequestTsig) (peer : Peer) (before later : Learned T) (request : List ℕ)
+pub signed_reply_none : {K : Type 0} (keys : List SharedKey) (rights : List (List Rule)) (IsReply : Peer → K → K → List ℕ → List (List ℕ) → Type 0)
+    (AreSigned : SharedKey → ℕ → RequestTsig → ℕ → List (List ℕ) → List (List ℕ) → Type 0) (found : Option SharedKey) (now : ℕ) (tsig : RequestTsig) (peer : Peer) (before later : K) (request : List ℕ)
     → found ≡ None → IsSignedReply keys rights IsReply AreSigned found now tsig peer before later request []
 signed_reply_none keys rights IsReply AreSigned found now tsig peer before later request is =
     subst (λ f. IsSignedReply keys rights IsReply AreSigned f now tsig peer before later request []) (sym is) refl
 
--- what is replied without asking a handler is replied by what is known
-pub told_at_once : {T : Type 0} (keys : List SharedKey) (rights : List (List Rule)) (IsReply : Peer → Learned T → Learned T → List ℕ → List (List ℕ) → Type 0)
-    (AreSigned : SharedKey → ℕ → RequestTsig → ℕ → List (List ℕ) → List (List ℕ) → Type 0) (verification said : Verification) (now : ℕ) (peer : Peer) (seen : Learned T) (request : List ℕ) (messages : List (List ℕ))
-    → verification ≡ said → IsReplyBy keys rights IsReply AreSigned said now peer seen seen request messages
-    → (before : Learned T) × Grows before seen × Grows seen before × IsReplyBy keys rights IsReply AreSigned verification now peer before seen request messages
-told_at_once keys rights IsReply AreSigned verification said now peer seen request messages is reply =
-    (seen, grows_itself seen, grows_itself seen, subst (λ v. IsReplyBy keys rights IsReply AreSigned v now peer seen seen request messages) (sym is) reply)
-
--- and what a handler is asked for
-pub told_then : {T : Type 0} (keys : List SharedKey) (rights : List (List Rule)) (IsReply : Peer → Learned T → Learned T → List ℕ → List (List ℕ) → Type 0)
-    (AreSigned : SharedKey → ℕ → RequestTsig → ℕ → List (List ℕ) → List (List ℕ) → Type 0) (verification said : Verification) (now : ℕ) (peer : Peer) (seen later : Learned T) (request : List ℕ) (messages : List (List ℕ))
-    → verification ≡ said → (before : Learned T) × Grows before seen × Grows later before × IsReplyBy keys rights IsReply AreSigned said now peer before later request messages
-    → (before : Learned T) × Grows before seen × Grows later before × IsReplyBy keys rights IsReply AreSigned verification now peer before later request messages
-told_then keys rights IsReply AreSigned verification said now peer seen later request messages is reply =
-    (reply.0, reply.1, reply.2, subst (λ v. IsReplyBy keys rights IsReply AreSigned v now peer reply.0 later request messages) (sym is) reply.3)
-
 -- the reply to a request without its TSIG, by whoever was asked as the peer that the rules of the key's holder make of its sender, is signed
-pub signed_as : {T : Type 0} (keys : List SharedKey) (rights : List (List Rule)) (IsReply : Peer → Learned T → Learned T → List ℕ → List (List ℕ) → Type 0)
-    (AreSigned : SharedKey → ℕ → RequestTsig → ℕ → List (List ℕ) → List (List ℕ) → Type 0) (found : Option SharedKey) (key : SharedKey) (now : ℕ) (tsig : RequestTsig) (peer : Peer) (before later : Learned T)
+pub signed_as : {K : Type 0} (keys : List SharedKey) (rights : List (List Rule)) (IsReply : Peer → K → K → List ℕ → List (List ℕ) → Type 0)
+    (AreSigned : SharedKey → ℕ → RequestTsig → ℕ → List (List ℕ) → List (List ℕ) → Type 0) (found : Option SharedKey) (key : SharedKey) (now : ℕ) (tsig : RequestTsig) (peer : Peer) (before later : K)
     (request inner : List ℕ) (from : SocketAddr) (own asked : Peer) (plains messages : List (List ℕ)) → found ≡ Some key → inner ≡ plain_of request tsig.start
     → IsPeer (rules_of rights tsig.key) peer.transport from inner own → asked ≡ own → IsReply asked before later inner plains
     → AreSigned key now tsig (reply_limit peer.transport inner) plains messages → IsSignedReply keys rights IsReply AreSigned found now tsig peer before later request messages

@@ -11,7 +11,6 @@ use Rattle.dns_message.specs.declared.edns.Edns.{Edns}
 use Rattle.dns_message.specs.declared.query.Parsed.{Parsed}
 use Rattle.dns_message.specs.declared.query.Parsed.TheVariants as parsed
 use Rattle.requests.specs.Allowed.{IsPeer}
-use Rattle.requests.specs.Served.{Learned, Grows}
 use Rattle.rights.specs.declared.rule.Rule.{Rule}
 use Rattle.serve_core.specs.Heading.{header_alone, coded}
 use Rattle.serve_core.specs.Transport.{limit_of}
@@ -90,9 +89,9 @@ AreSignedAlone key now tsig limit plains messages = messages ≡ map (signed_rep
 
 -- the keys, the rules of their holders, what a reply is to a request without TSIG, by the peer and by what is known before it and when it is made, and how its messages are signed, by the key, the
 -- time, the request's TSIG and the limit
-module _ {T : Type 0} (keys : List SharedKey) (rights : List (List Rule)) (IsReply : Peer → Learned T → Learned T → List ℕ → List (List ℕ) → Type 0) (AreSigned : SharedKey → ℕ → RequestTsig → ℕ → List (List ℕ) → List (List ℕ) → Type 0) where
+module _ {K : Type 0} (keys : List SharedKey) (rights : List (List Rule)) (IsReply : Peer → K → K → List ℕ → List (List ℕ) → Type 0) (AreSigned : SharedKey → ℕ → RequestTsig → ℕ → List (List ℕ) → List (List ℕ) → Type 0) where
   -- the messages of a reply to the request without its TSIG, to the peer that the rules of the key's holder make of who sends that from an address, signed at a time (RFC 8945, 5.3)
-  abbrev pub IsSignedReply : Option SharedKey → ℕ → RequestTsig → Peer → Learned T → Learned T → List ℕ → List (List ℕ) → Type 0
+  abbrev pub IsSignedReply : Option SharedKey → ℕ → RequestTsig → Peer → K → K → List ℕ → List (List ℕ) → Type 0
   IsSignedReply None now tsig peer before later request messages = messages ≡ []
   IsSignedReply (Some key) now tsig peer before later request messages =
       let plain = plain_of request tsig.start in
@@ -100,7 +99,7 @@ module _ {T : Type 0} (keys : List SharedKey) (rights : List (List Rule)) (IsRep
       × (plains : List (List ℕ)) × IsReply own before later plain plains × AreSigned key now tsig (reply_limit peer.transport plain) plains messages
 
   -- by what the request is by its TSIG (RFC 8945, 5.2)
-  abbrev pub IsReplyBy : Verification → ℕ → Peer → Learned T → Learned T → List ℕ → List (List ℕ) → Type 0
+  abbrev pub IsReplyBy : Verification → ℕ → Peer → K → K → List ℕ → List (List ℕ) → Type 0
   IsReplyBy Unsigned now peer before later request messages = IsReply peer before later request messages
   IsReplyBy Silent now peer before later request messages = messages ≡ []
   IsReplyBy Malformed now peer before later request messages = messages ≡ error_reply peer.transport FormErr request ∷ []
@@ -110,10 +109,10 @@ module _ {T : Type 0} (keys : List SharedKey) (rights : List (List Rule)) (IsRep
   IsReplyBy (BadTrunc tsig) now peer before later request messages = messages ≡ signed_error peer.transport (slice_get keys tsig.key) tsig (stamp_short now) request
   IsReplyBy (Signed tsig) now peer before later request messages = IsSignedReply (slice_get keys tsig.key) now tsig peer before later request messages
 
-  -- at some time, the clock's, and by what is known then
-  abbrev pub IsReplyTo : Peer → Learned T → Learned T → List ℕ → List (List ℕ) → Type 0
-  IsReplyTo peer seen later request messages =
-      (now : ℕ) × (before : Learned T) × Grows before seen × Grows later before × IsReplyBy (received keys now request) now peer before later request messages
+  -- at some time, the clock's, and by what is known then, which grows
+  abbrev pub IsReplyTo : (K → K → Type 0) → Peer → K → K → List ℕ → List (List ℕ) → Type 0
+  IsReplyTo Grows peer seen later request messages =
+      (now : ℕ) × (before : K) × Grows before seen × Grows later before × IsReplyBy (received keys now request) now peer before later request messages
 
 -- the keys, the rules of their holders, and which requests without TSIG may be answered later, by the peer
 module _ (keys : List SharedKey) (rights : List (List Rule)) (IsLater : Peer → List ℕ → Type 0) where

@@ -1,7 +1,7 @@
 //! Requests of connections that are signed (RFC 8945, 5).
 ghost use Rattle.std.specs.Prelude.{◌≡◌, ◌≢◌, ◌≤◌, ◌↔◌, ◌⊎◌, ℕ, List, Some, length, slice_get, IfOk, IfErr};
 ghost use Rattle.dns_message.specs.Message.{message_limit};
-ghost use Rattle.requests.specs.Served.{Learned, Grows};
+ghost use Rattle.tcp_connections.specs.Served.{Knowledge, Extends};
 ghost use Rattle.requests.specs.declared.stream_end.StreamEnd.{StreamEnd as EndOf};
 ghost use Rattle.requests.specs.Octets.{messages_in};
 ghost use Rattle.signed_replies.specs.Signed.{received, plain_of, IsReplyBy, IsReplyTo, IsSignedReply, IsLaterBy, IsLaterTo};
@@ -39,16 +39,16 @@ use zone_server::{TsigFault, TsigLog};
 /// to the first. Contracts see that handler, the peer, and the key of its connection.
 #[derive(Drop)]
 pub struct SignedConnections<'r, 'k, K: KeyRing, M: Messages, A: Handler<M>, C, O> {
-    inner: A,
-    ring: &'r RingKeys<'k, K>,
-    clock: C,
+    pub(crate) inner: A,
+    pub(crate) ring: &'r RingKeys<'k, K>,
+    pub(crate) clock: C,
     log: O,
-    peer: Peer,
-    from: SocketAddr,
+    pub(crate) peer: Peer,
+    pub(crate) from: SocketAddr,
     /// The key of the peer's connection.
-    asker: usize,
-    room: PlainRoom,
-    times: PendingTimes,
+    pub(crate) asker: usize,
+    pub(crate) room: PlainRoom,
+    pub(crate) times: PendingTimes,
     messages: PhantomData<M>,
 }
 
@@ -64,7 +64,7 @@ fn mac_of(verified: &Verification<'_>) -> ArrayVec<u8, MAX_MAC> {
     mac
 }
 
-/// Keeps when the request with this MAC was verified, from this address on the connection under a key, where its reply is made later. Else it forgets the request of that connection.
+/// Keeps when the request with this MAC was verified, from this address on the connection under a key, where its reply is made later. Else it forgets that request.
 fn keep_time<M: Messages>(
     times: &mut PendingTimes,
     made: &Reply<M>,
@@ -75,7 +75,7 @@ fn keep_time<M: Messages>(
 ) {
     match made {
         Reply::Later => times.put(key, from, mac, time),
-        _ => times.remove(key),
+        _ => times.remove(key, &mac),
     }
 }
 
@@ -92,7 +92,7 @@ fn reply_as<R: Wait, M: Messages, A: Handler<M>>(
     requires room { message_limit ≤ length out.old }
     ensures grows { EachGrows {T = Version} (A.seen inner.new) (A.seen inner.old) }
     ensures bound { IfOk result (λ reply. (len : ℕ) → reply ≡ ReplyOf.One len → (len ≤ message_limit) × (len ≤ length out.new)) }
-    ensures reply { IfOk result (λ reply. reply ≢ ReplyOf.Later → (before : Learned Version) × Grows before (A.seen inner.old asker) × Grows (A.seen inner.new asker) before
+    ensures reply { IfOk result (λ reply. reply ≢ ReplyOf.Later → (before : Knowledge Version) × Extends before (A.seen inner.old asker) × Extends (A.seen inner.new asker) before
         × A.is_reply peer before (A.seen inner.new asker) request.now (messages_of M.left reply out.new)) }
     ensures later { IfOk result (λ reply. reply ≡ ReplyOf.Later → A.is_later peer request.now) }
     ensures end { IfErr result (λ end. (end ≡ EndOf.Spent) ⊎ (end ≡ EndOf.NoMemory)) }
@@ -165,7 +165,7 @@ impl<
     'k,
     K: KeyRing,
     M: Messages,
-    A: Handler<M> + Drop,
+    A: Handler<M>,
     C: UnixClock,
     O: TsigLog + Drop,
 > SignedConnections<'r, 'k, K, M, A, C, O> {
@@ -201,10 +201,23 @@ impl<
     pub fn into_inner(self) -> A
         ensures { result ≡ self.entry.inner }
     {
-        self.inner
+        let SignedConnections {
+            inner,
+            ring: _,
+            clock: _,
+            log: _,
+            peer: _,
+            from: _,
+            asker: _,
+            room: _,
+            times: _,
+            messages: _,
+        } = self;
+        inner
     }
 
     /// Answers a request that the holder of a key signed, and signs the reply.
+    #[tactic(auto, using(tcp_connections::proofs::AskedLemmas::each_itself))]
     fn reply_signed<R: Wait>(
         &mut self,
         rt: &R,
@@ -222,8 +235,8 @@ impl<
         ensures bound { IfOk result (λ reply. (len : ℕ) → reply ≡ ReplyOf.One len → (len ≤ message_limit) × (len ≤ length out.new)) }
         ensures end { IfErr result (λ end. (end ≡ EndOf.Spent) ⊎ (end ≡ EndOf.NoMemory)) }
         ensures spent { IfErr result (λ end. end ≡ EndOf.Spent → A.spent self.new.inner) }
-        ensures reply { IfOk result (λ reply. reply ≢ ReplyOf.Later → (before : Learned Version) × Grows before (A.seen self.old.inner self.old.asker) × Grows (A.seen self.new.inner self.old.asker) before
-            × IsSignedReply {T = Version} K.keys K.rights A.is_reply AreSignedInOrder (slice_get K.keys tsig.key) now tsig self.old.peer before (A.seen self.new.inner self.old.asker) request.now (messages_of (λ s. stream_by s.signer (M.left s.inner)) reply out.new)) }
+        ensures reply { IfOk result (λ reply. reply ≢ ReplyOf.Later → (before : Knowledge Version) × Extends before (A.seen self.old.inner self.old.asker) × Extends (A.seen self.new.inner self.old.asker) before
+            × IsSignedReply {K = Knowledge Version} K.keys K.rights A.is_reply AreSignedInOrder (slice_get K.keys tsig.key) now tsig self.old.peer before (A.seen self.new.inner self.old.asker) request.now (messages_of (λ s. stream_by s.signer (M.left s.inner)) reply out.new)) }
         ensures later { IfOk result (λ reply. reply ≡ ReplyOf.Later → IsLaterBy K.keys K.rights A.is_later (signed_by tsig) self.old.peer request.now) }
     {
         let Some(key) = self.ring.keys().get(tsig.key) else {
@@ -239,6 +252,7 @@ impl<
     }
 
     /// Answers a request by what it is by its TSIG (RFC 8945, 5.2).
+    #[tactic(auto, using(tcp_connections::proofs::AskedLemmas::each_itself))]
     fn reply_by<R: Wait>(
         &mut self,
         rt: &R,
@@ -257,8 +271,8 @@ impl<
         ensures bound { IfOk result (λ reply. (len : ℕ) → reply ≡ ReplyOf.One len → (len ≤ message_limit) × (len ≤ length out.new)) }
         ensures end { IfErr result (λ end. (end ≡ EndOf.Spent) ⊎ (end ≡ EndOf.NoMemory)) }
         ensures spent { IfErr result (λ end. end ≡ EndOf.Spent → A.spent self.new.inner) }
-        ensures reply { IfOk result (λ reply. reply ≢ ReplyOf.Later → (before : Learned Version) × Grows before (A.seen self.old.inner self.old.asker) × Grows (A.seen self.new.inner self.old.asker) before
-            × IsReplyBy {T = Version} K.keys K.rights A.is_reply AreSignedInOrder verified.entry now self.old.peer before (A.seen self.new.inner self.old.asker) request.now (messages_of (λ s. stream_by s.signer (M.left s.inner)) reply out.new)) }
+        ensures reply { IfOk result (λ reply. reply ≢ ReplyOf.Later → (before : Knowledge Version) × Extends before (A.seen self.old.inner self.old.asker) × Extends (A.seen self.new.inner self.old.asker) before
+            × IsReplyBy {K = Knowledge Version} K.keys K.rights A.is_reply AreSignedInOrder verified.entry now self.old.peer before (A.seen self.new.inner self.old.asker) request.now (messages_of (λ s. stream_by s.signer (M.left s.inner)) reply out.new)) }
         ensures later { IfOk result (λ reply. reply ≡ ReplyOf.Later → IsLaterBy K.keys K.rights A.is_later verified.entry self.old.peer request.now) }
     {
         let transport = self.peer.transport;
@@ -322,7 +336,7 @@ impl<
         ensures bound { IfOk result (λ reply. (len : ℕ) → reply ≡ ReplyOf.One len → (len ≤ message_limit) × (len ≤ length out.new)) }
         ensures end { IfErr result (λ end. (end ≡ EndOf.Spent) ⊎ (end ≡ EndOf.NoMemory)) }
         ensures spent { IfErr result (λ end. end ≡ EndOf.Spent → A.spent self.new.inner) }
-        ensures reply { IfOk result (λ reply. reply ≢ ReplyOf.Later → IsReplyTo {T = Version} K.keys K.rights A.is_reply AreSignedInOrder self.old.peer (A.seen self.old.inner self.old.asker) (A.seen self.new.inner self.old.asker) request.now (messages_of (λ s. stream_by s.signer (M.left s.inner)) reply out.new)) }
+        ensures reply { IfOk result (λ reply. reply ≢ ReplyOf.Later → IsReplyTo {K = Knowledge Version} K.keys K.rights A.is_reply AreSignedInOrder (Extends {T = Version}) self.old.peer (A.seen self.old.inner self.old.asker) (A.seen self.new.inner self.old.asker) request.now (messages_of (λ s. stream_by s.signer (M.left s.inner)) reply out.new)) }
         ensures later { IfOk result (λ reply. reply ≡ ReplyOf.Later → IsLaterTo K.keys K.rights A.is_later self.old.peer request.now) }
     {
         if is_unsigned(message) {
@@ -357,7 +371,7 @@ impl<
         ensures bound { IfOk result (λ reply. (len : ℕ) → reply ≡ ReplyOf.One len → (len ≤ message_limit) × (len ≤ length out.new)) }
         ensures end { IfErr result (λ end. (end ≡ EndOf.Spent) ⊎ (end ≡ EndOf.NoMemory)) }
         ensures spent { IfErr result (λ end. end ≡ EndOf.Spent → A.spent self.new.inner) }
-        ensures reply { IfOk result (λ reply. reply ≢ ReplyOf.Later → IsReplyTo {T = Version} K.keys K.rights A.is_reply AreSignedInOrder self.old.peer (A.seen self.old.inner self.old.asker) (A.seen self.new.inner self.old.asker) request.now (messages_of (λ s. stream_by s.signer (M.left s.inner)) reply out.new)) }
+        ensures reply { IfOk result (λ reply. reply ≢ ReplyOf.Later → IsReplyTo {K = Knowledge Version} K.keys K.rights A.is_reply AreSignedInOrder (Extends {T = Version}) self.old.peer (A.seen self.old.inner self.old.asker) (A.seen self.new.inner self.old.asker) request.now (messages_of (λ s. stream_by s.signer (M.left s.inner)) reply out.new)) }
         ensures later { IfOk result (λ reply. reply ≡ ReplyOf.Later → IsLaterTo K.keys K.rights A.is_later self.old.peer request.now) }
     {
         let mac = mac_of(&verified);
@@ -395,7 +409,7 @@ impl<
         ensures bound { IfOk result (λ reply. (len : ℕ) → reply ≡ ReplyOf.One len → (len ≤ message_limit) × (len ≤ length out.new)) }
         ensures end { IfErr result (λ end. (end ≡ EndOf.Spent) ⊎ (end ≡ EndOf.NoMemory)) }
         ensures spent { IfErr result (λ end. end ≡ EndOf.Spent → A.spent self.new.inner) }
-        ensures reply { IfOk result (λ reply. reply ≢ ReplyOf.Later → IsReplyTo {T = Version} K.keys K.rights A.is_reply AreSignedInOrder self.old.peer (A.seen self.old.inner self.old.asker) (A.seen self.new.inner self.old.asker) request.now (messages_of (λ s. stream_by s.signer (M.left s.inner)) reply out.new)) }
+        ensures reply { IfOk result (λ reply. reply ≢ ReplyOf.Later → IsReplyTo {K = Knowledge Version} K.keys K.rights A.is_reply AreSignedInOrder (Extends {T = Version}) self.old.peer (A.seen self.old.inner self.old.asker) (A.seen self.new.inner self.old.asker) request.now (messages_of (λ s. stream_by s.signer (M.left s.inner)) reply out.new)) }
         ensures later { IfOk result (λ reply. reply ≡ ReplyOf.Later → IsLaterTo K.keys K.rights A.is_later self.old.peer request.now) }
     {
         let mut ends = [0; MAX_TARGETS];
@@ -405,22 +419,16 @@ impl<
     }
 }
 
-impl<
-    'r,
-    'k,
-    K: KeyRing,
-    M: Messages,
-    A: Handler<M> + Drop,
-    C: UnixClock,
-    O: TsigLog + Drop,
-> Handler<SignedMessages<'k, M>> for SignedConnections<'r, 'k, K, M, A, C, O> {
+impl<'r, 'k, K: KeyRing, M: Messages, A: Handler<M>, C: UnixClock, O: TsigLog + Drop> Handler<
+    SignedMessages<'k, M>,
+> for SignedConnections<'r, 'k, K, M, A, C, O> {
     ghost seen = { λ signed. A.seen signed.inner };
 
     ghost peer = { λ signed. signed.peer };
 
     ghost asker = { λ signed. signed.asker };
 
-    ghost is_reply = { λ peer known later request messages. IsReplyTo K.keys K.rights A.is_reply AreSignedInOrder peer known later request messages };
+    ghost is_reply = { λ peer known later request messages. IsReplyTo K.keys K.rights A.is_reply AreSignedInOrder Extends peer known later request messages };
 
     ghost is_later = { λ peer request. IsLaterTo K.keys K.rights A.is_later peer request };
 
@@ -436,6 +444,7 @@ impl<
         self.peer = other;
     }
 
+    #[tactic(auto, using(tcp_connections::proofs::AskedLemmas::each_itself))]
     fn reply<R: Wait>(
         &mut self,
         rt: &R,
@@ -454,5 +463,16 @@ impl<
             return self.reply_long(rt, request, out);
         }
         self.reply_message(rt, &Message::new(request), request, out)
+    }
+
+    #[tactic(auto, using(tcp_connections::proofs::AskedLemmas::each_itself))]
+    fn prepare<R: Wait>(&mut self, rt: &R, between: usize, request: &[u8], out: &mut [u8]) -> bool {
+        if request.len() < HEADER || request.len() > MAX_LIMIT {
+            return false;
+        }
+        if request.len() > MAX_SHORT {
+            return self.prepare_long(rt, between, request, out);
+        }
+        self.prepare_message(rt, &Message::new(request), between, request, out)
     }
 }

@@ -97,7 +97,7 @@ impl<'r, 'k, K: KeyRing, A: SignsLater + Drop, C: UnixClock, O: TsigLog + Drop> 
         ensures same { self.new.peer ≡ self.old.peer }
         ensures grows { Grows {T = Version} (A.seen self.new.inner) (A.seen self.old.inner) }
         ensures bound { IfOk result (λ len. IfSome len (λ n. (n ≤ message_limit) × (n ≤ length out.new))) }
-        ensures reply { IfOk result (λ len. IsReplyTo {T = Version} K.keys K.rights A.is_reply AreSignedAlone (by_datagram self.old.peer) (A.seen self.old.inner) (A.seen self.new.inner) request.now (messages_in len out.new)) }
+        ensures reply { IfOk result (λ len. IsReplyTo {K = Learned Version} K.keys K.rights A.is_reply AreSignedAlone (Grows {T = Version}) (by_datagram self.old.peer) (A.seen self.old.inner) (A.seen self.new.inner) request.now (messages_in len out.new)) }
     {
         let message = Message::new(request);
         if is_unsigned(&message) {
@@ -120,7 +120,7 @@ impl<'r, 'k, K: KeyRing, A: SignsLater + Drop, C: UnixClock, O: TsigLog + Drop> 
         ensures same { self.new.peer ≡ self.old.peer }
         ensures grows { Grows {T = Version} (A.seen self.new.inner) (A.seen self.old.inner) }
         ensures bound { IfOk result (λ len. IfSome len (λ n. (n ≤ message_limit) × (n ≤ length out.new))) }
-        ensures reply { IfOk result (λ len. IsReplyTo {T = Version} K.keys K.rights A.is_reply AreSignedAlone (by_datagram self.old.peer) (A.seen self.old.inner) (A.seen self.new.inner) request.now (messages_in len out.new)) }
+        ensures reply { IfOk result (λ len. IsReplyTo {K = Learned Version} K.keys K.rights A.is_reply AreSignedAlone (Grows {T = Version}) (by_datagram self.old.peer) (A.seen self.old.inner) (A.seen self.new.inner) request.now (messages_in len out.new)) }
     {
         let mut ends = [0; MAX_TARGETS];
         let mut sizes = [0; MAX_TARGETS];
@@ -143,7 +143,7 @@ impl<'r, 'k, K: KeyRing, A: SignsLater + Drop, C: UnixClock, O: TsigLog + Drop> 
         ensures same { self.new.peer ≡ self.old.peer }
         ensures grows { Grows {T = Version} (A.seen self.new.inner) (A.seen self.old.inner) }
         ensures bound { IfOk result (λ len. IfSome len (λ n. (n ≤ message_limit) × (n ≤ length out.new))) }
-        ensures reply { IfOk result (λ len. IsReplyTo {T = Version} K.keys K.rights A.is_reply AreSignedAlone (by_datagram self.old.peer) (A.seen self.old.inner) (A.seen self.new.inner) request.now (messages_in len out.new)) }
+        ensures reply { IfOk result (λ len. IsReplyTo {K = Learned Version} K.keys K.rights A.is_reply AreSignedAlone (Grows {T = Version}) (by_datagram self.old.peer) (A.seen self.old.inner) (A.seen self.new.inner) request.now (messages_in len out.new)) }
     {
         let (peer, from) = (self.peer, self.from);
         answer_as(rt, &mut self.inner, peer, from, None, request, out)
@@ -165,7 +165,7 @@ impl<'r, 'k, K: KeyRing, A: SignsLater + Drop, C: UnixClock, O: TsigLog + Drop> 
         ensures same { self.new.peer ≡ self.old.peer }
         ensures grows { Grows {T = Version} (A.seen self.new.inner) (A.seen self.old.inner) }
         ensures bound { IfOk result (λ len. IfSome len (λ n. (n ≤ message_limit) × (n ≤ length out.new))) }
-        ensures reply { IfOk result (λ len. IsReplyTo {T = Version} K.keys K.rights A.is_reply AreSignedAlone (by_datagram self.old.peer) (A.seen self.old.inner) (A.seen self.new.inner) request.now (messages_in len out.new)) }
+        ensures reply { IfOk result (λ len. IsReplyTo {K = Learned Version} K.keys K.rights A.is_reply AreSignedAlone (Grows {T = Version}) (by_datagram self.old.peer) (A.seen self.old.inner) (A.seen self.new.inner) request.now (messages_in len out.new)) }
     {
         let now = self.clock.now();
         let verified = verify(self.ring.keys(), now, message);
@@ -189,7 +189,7 @@ impl<'r, 'k, K: KeyRing, A: SignsLater + Drop, C: UnixClock, O: TsigLog + Drop> 
         ensures grows { Grows {T = Version} (A.seen self.new.inner) (A.seen self.old.inner) }
         ensures bound { IfOk result (λ len. IfSome len (λ n. (n ≤ message_limit) × (n ≤ length out.new))) }
         ensures reply { IfOk result (λ len. (before : Learned Version) × Grows before (A.seen self.old.inner) × Grows (A.seen self.new.inner) before
-            × IsReplyBy {T = Version} K.keys K.rights A.is_reply AreSignedAlone verified.entry now (by_datagram self.old.peer) before (A.seen self.new.inner) request.now (messages_in len out.new)) }
+            × IsReplyBy {K = Learned Version} K.keys K.rights A.is_reply AreSignedAlone verified.entry now (by_datagram self.old.peer) before (A.seen self.new.inner) request.now (messages_in len out.new)) }
     {
         match verified {
             Verification::Unsigned => {
@@ -248,7 +248,7 @@ impl<'r, 'k, K: KeyRing, A: SignsLater + Drop, C: UnixClock, O: TsigLog + Drop> 
         ensures grows { Grows {T = Version} (A.seen self.new.inner) (A.seen self.old.inner) }
         ensures bound { IfOk result (λ len. IfSome len (λ n. (n ≤ message_limit) × (n ≤ length out.new))) }
         ensures reply { IfOk result (λ len. (before : Learned Version) × Grows before (A.seen self.old.inner) × Grows (A.seen self.new.inner) before
-            × IsSignedReply {T = Version} K.keys K.rights A.is_reply AreSignedAlone (slice_get K.keys tsig.key) now tsig (by_datagram self.old.peer) before (A.seen self.new.inner) request.now (messages_in len out.new)) }
+            × IsSignedReply {K = Learned Version} K.keys K.rights A.is_reply AreSignedAlone (slice_get K.keys tsig.key) now tsig (by_datagram self.old.peer) before (A.seen self.new.inner) request.now (messages_in len out.new)) }
     {
         let Some(key) = self.ring.keys().get(tsig.key) else {
             return Ok(None);
@@ -298,7 +298,7 @@ impl<'r, 'k, K: KeyRing, A: SignsLater + Drop, C: UnixClock, O: TsigLog + Drop> 
         ensures grows { Grows {T = Version} (A.seen self.new.inner) (A.seen self.old.inner) }
         ensures bound { (result ≤ message_limit) × (result ≤ length out.new) }
         ensures reply { (before : Learned Version) × Grows before (A.seen self.old.inner) × Grows (A.seen self.new.inner) before
-            × ((asking : PeerAsking) → IsReplyBy {T = Version} K.keys K.rights A.is_reply AreSignedAlone verified.entry now (by_datagram asking) before (A.seen self.new.inner) request.now (take result out.new ∷ [])) }
+            × ((asking : PeerAsking) → IsReplyBy {K = Learned Version} K.keys K.rights A.is_reply AreSignedAlone verified.entry now (by_datagram asking) before (A.seen self.new.inner) request.now (take result out.new ∷ [])) }
     {
         match verified {
             Verification::Unsigned => self.inner.answer_unread(request, head, out),
@@ -360,7 +360,7 @@ impl<'r, 'k, K: KeyRing, A: SignsLater + Drop, C: UnixClock, O: TsigLog + Drop> 
 
     ghost peer = { λ signed. signed.peer };
 
-    ghost is_reply = { λ peer seen later request messages. IsReplyTo K.keys K.rights A.is_reply AreSignedAlone peer seen later request messages };
+    ghost is_reply = { λ peer seen later request messages. IsReplyTo K.keys K.rights A.is_reply AreSignedAlone Grows peer seen later request messages };
 
     fn turn_to(&mut self, other: Peer, from: SocketAddr) {
         self.peer = other;

@@ -14,6 +14,7 @@ mod limit;
 mod messages;
 mod pending_times;
 mod plain_room;
+mod prepared;
 mod queued;
 mod refusal;
 mod signing;

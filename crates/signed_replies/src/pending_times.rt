@@ -2,63 +2,125 @@
 use arrayvec::ArrayVec;
 use hmac::MAX_MAC;
 use std::alloc::Global;
+use std::mem;
 use std::net::SocketAddr;
 
 /// A request whose reply is made later.
 #[derive(Drop)]
 struct PendingTime {
-    /// The address of its connection's peer.
-    from: SocketAddr,
     /// The MAC of its TSIG.
     mac: ArrayVec<u8, MAX_MAC>,
     /// When it was verified, in seconds since 1970.
     time: u64,
 }
 
-/// When requests were verified whose replies are made later, at most one of each connection, by the connection's key. Such a request is answered again with the same octets, and isn't
+/// The requests of a connection whose replies are made later.
+#[derive(Drop)]
+struct ConnectionTimes {
+    /// The address of its peer.
+    from: SocketAddr,
+    /// The requests, in the order in which they were verified first.
+    requests: Vec<PendingTime>,
+}
+
+impl ConnectionTimes {
+    /// Where the request with this MAC is; None where there is none.
+    fn position(&self, mac: &[u8]) -> Option<usize> {
+        self.requests
+            .as_slice()
+            .iter()
+            .position(|request| request.mac.as_slice() == mac)
+    }
+
+    /// Keeps when the request with this MAC was verified, unless that is kept. Where memory is refused, nothing is kept.
+    fn put(&mut self, mac: ArrayVec<u8, MAX_MAC>, time: u64) {
+        if self.position(&mac).is_none() {
+            let _ = self.requests.push(PendingTime { mac, time });
+        }
+    }
+
+    /// Forgets the request with this MAC.
+    fn remove(&mut self, mac: &[u8]) {
+        let Some(at) = self.position(mac) else {
+            return;
+        };
+        if at < self.requests.len() {
+            let _ = self.requests.remove(at);
+        }
+    }
+}
+
+/// The requests that were kept, if their peer sends from this address; otherwise none.
+fn of_peer(alloc: Global, kept: Option<ConnectionTimes>, from: SocketAddr) -> ConnectionTimes {
+    if let Some(times) = kept {
+        if times.from == from {
+            return times;
+        }
+    }
+    ConnectionTimes {
+        from,
+        requests: Vec::new(alloc),
+    }
+}
+
+/// When requests were verified whose replies are made later, by the key of their connection. Such a request is answered again with the same octets, and isn't
 /// judged by a later time then: an update that has been applied would else get BADTIME.
 #[derive(Drop)]
 pub(crate) struct PendingTimes {
-    times: Vec<Option<PendingTime>>,
+    alloc: Global,
+    connections: Vec<Option<ConnectionTimes>>,
 }
 
 impl PendingTimes {
     /// No request's.
     pub fn new(alloc: Global) -> PendingTimes {
         PendingTimes {
-            times: Vec::new(alloc),
+            alloc,
+            connections: Vec::new(alloc),
         }
     }
 
     /// When the request with this MAC was verified, from this address on the connection under a key; None where that one has no such request.
     pub fn at(&self, key: usize, from: SocketAddr, mac: &[u8]) -> Option<u64> {
-        match self.times.get(key)? {
-            Some(pending) if pending.from == from && pending.mac.as_slice() == mac => {
-                Some(pending.time)
+        match self.connections.get(key)? {
+            Some(times) if times.from == from => {
+                let at = times.position(mac)?;
+                Some(times.requests.get(at)?.time)
             }
             _ => None,
         }
     }
 
-    /// Keeps when the request with this MAC was verified. Where memory is refused, nothing is kept, and that request is judged by a later time.
-    pub fn put(&mut self, key: usize, from: SocketAddr, mac: ArrayVec<u8, MAX_MAC>, time: u64) {
+    /// Makes room for the connection under a key. False where memory is refused.
+    fn make_room(&mut self, key: usize) -> bool {
         let Some(count) = key.checked_add(1) else {
-            return;
+            return false;
         };
-        for _entry in self.times.len()..count {
-            let Ok(()) = self.times.push(None) else {
-                return;
+        for _entry in self.connections.len()..count {
+            let Ok(()) = self.connections.push(None) else {
+                return false;
             };
         }
-        if let Some(entry) = self.times.get_mut(key) {
-            *entry = Some(PendingTime { from, mac, time });
+        true
+    }
+
+    /// Keeps when the request with this MAC was verified, from this address on the connection under a key; those of another one that had the key are forgotten. Where memory is refused, nothing is kept, and
+    /// that request is judged by a later time.
+    pub fn put(&mut self, key: usize, from: SocketAddr, mac: ArrayVec<u8, MAX_MAC>, time: u64) {
+        if !self.make_room(key) {
+            return;
+        }
+        if let Some(entry) = self.connections.get_mut(key) {
+            let mut times = of_peer(self.alloc, mem::replace(entry, None), from);
+            times.put(mac, time);
+            *entry = Some(times);
         }
     }
 
-    /// Forgets the request of the connection under a key.
-    pub fn remove(&mut self, key: usize) {
-        if let Some(entry) = self.times.get_mut(key) {
-            *entry = None;
+    /// Forgets the request with this MAC of the connection under a key.
+    pub fn remove(&mut self, key: usize, mac: &[u8]) {
+        if let Some(Some(times)) = self.connections.get_mut(key) {
+            times.remove(mac);
         }
     }
 }

@@ -1,6 +1,6 @@
 -- What the end of a cell makes of its tokens.
-use Rattle.std.proofs.Common.{◌≡◌, refl, ap, sym, ◌∙◌, subst, ℕ, ◌+◌, ◌-◌, ◌<◌, List, [], ◌∷◌, ◌++◌, length, Option, Some, None, arith}
-use Rattle.std.specs.Prelude.{MatchOption}
+use Rattle.std.proofs.Common.{◌≡◌, refl, ap, sym, ◌∙◌, subst, true, ℕ, ◌+◌, ◌-◌, ◌<◌, List, [], ◌∷◌, ◌++◌, length, Option, Some, None, arith}
+use Rattle.std.specs.Prelude.{Result, Ok, Err, IfOk, IfErr}
 use Rattle.std.specs.List.{slice_get, All}
 use Rattle.std.proofs.lemmas.List.{length_push}
 use Rattle.std.proofs.Math.ListN.{get_or-append}
@@ -15,9 +15,9 @@ use Rattle.counted_handles.specs.Cuts.{lodged, without_guest}
 use Rattle.counted_handles.specs.Calls.{IsHost, IsLastValue}
 use Rattle.snapshot_cell.specs.Tokens.{IsReader, IsPublisher, IsClosing}
 
--- a publisher that has looked at the words
+-- a publisher whose loads have shown that somebody has a version
 abbrev pub looked : {T : Type 0} → Publishing T → Option ℕ → ℕ → Publishing T
-looked p fixed swept = record p { fixed = fixed; swept = swept }
+looked p fixed swept = record p { fixed = fixed; swept = swept; busy = true }
 
 -- a reader taken in: one less is about
 pub closing_next : {T : Type 0} (p : Publishing T) (r : Reading T) (count left : ℕ) (views new_views : List (View T)) → IsClosing p count views → new_views ≡ Publishes (lodged p r) ∷ [] → count ≡ left + 1 → IsClosing (lodged p r) left new_views
@@ -32,7 +32,7 @@ pub like_again : {T : Type 0} (p : Publishing T) (r : Reading T) (count : ℕ) (
 like_again {T} p r count views new_views fixed swept c some is =
     let left : p.left + r.left - r.left ≡ p.left = omega arith in
     let readers : p.readers - 1 + 1 ≡ p.readers = omega (arith, c.readers, some) in
-    is ∙ (λ i. Publishes (record p { left = left i; readers = readers i; fixed = None; swept = swept }) ∷ [])
+    is ∙ (λ i. Publishes (record p { left = left i; readers = readers i; fixed = None; swept = swept; busy = true }) ∷ [])
 
 -- a reader's token is as it was
 pub reader_again : {T : Type 0} (cell new_cell : TableId) (views new_views : List (View T)) (left : ℕ) → (inv : IsReader cell views left) → new_cell ≡ cell → new_views ≡ Reads inv.reading ∷ [] → IsReader new_cell new_views left
@@ -55,10 +55,14 @@ front P xs items x is all k d l = subst P (get_or-append xs (x ∷ []) d k l) (s
 pub back : {X : Type 0} (P : X → Type 0) (xs items : List X) (x : X) → items ≡ xs ++ x ∷ [] → All P items → P x
 back P xs items x is all = subst P (get_or-append_seam xs x [] x) (subst (λ its. All P its) is all (length xs) x (omega (arith, length_push xs x)))
 
--- a choice of which the first part says more
-pub and_so : {X : Type 0} (o : Option X) (A C : Type 0) (B : X → Type 0) → C → MatchOption o A B → MatchOption o (A × C) B
-and_so None A C B c is = (is, c)
-and_so (Some x) A C B c is = is
+-- what follows of each value, or of each fault, follows of a result
+pub ok_too : {A E : Type 0} (r : Result A E) (P Q : A → Type 0) → ((a : A) → P a → Q a) → IfOk r P → IfOk r Q
+ok_too (Ok a) P Q then holds = then a holds
+ok_too (Err e) P Q then holds = tt
+
+pub err_too : {A E : Type 0} (r : Result A E) (P Q : E → Type 0) → ((e : E) → P e → Q e) → IfErr r P → IfErr r Q
+err_too (Ok a) P Q then holds = tt
+err_too (Err e) P Q then holds = then e holds
 
 -- the publisher's token when the end begins
 pub begun_closing : {T : Type 0} (p : Publishing T) (count : ℕ) (views : List (View T)) → views ≡ Publishes p ∷ [] → p.how ≡ Probing 0 → p.share ≡ None → p.readers ≡ count → IsClosing p count views

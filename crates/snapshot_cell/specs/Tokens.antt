@@ -27,19 +27,20 @@ abbrev pub reader_coded : {T : Type 0} → Coded T → Coded (ReaderState T)
 reader_coded {T} v = coded_via (coded× table_id_coded (coded× (coded_list v) (coded× coded_ℕ (coded_list coded_ℕ)))) (λ (s : ReaderState T). (s.cell, (s.seen, (s.left, s.gone))))
     (λ x y e i. record { cell = (e i).0; seen = (e i).1.0; left = (e i).1.1.0; gone = (e i).1.1.1 })
 
--- the publisher: its cell, the values published, the first one first, the last one with its number, how many weak owners it has given, and
--- how many free slots it has counted and not used since (own)
+-- the publisher: its cell, the values published, the first one first, the last one with its number, how many readers there are beside it, how
+-- many weak owners it has given, and how many free slots it has counted and not used since (own)
 pub record PublisherState (T : Type 0) : Type 0 where
   pub cell : TableId
   pub published : List T
   pub number : ℕ
   pub value : T
+  pub readers : ℕ
   pub noted : ℕ
   pub ready : ℕ
 
 abbrev pub publisher_coded : {T : Type 0} → Coded T → Coded (PublisherState T)
-publisher_coded {T} v = coded_via (coded× table_id_coded (coded× (coded_list v) (coded× coded_ℕ (coded× v (coded× coded_ℕ coded_ℕ))))) (λ (s : PublisherState T). (s.cell, (s.published, (s.number, (s.value, (s.noted, s.ready))))))
-    (λ x y e i. record { cell = (e i).0; published = (e i).1.0; number = (e i).1.1.0; value = (e i).1.1.1.0; noted = (e i).1.1.1.1.0; ready = (e i).1.1.1.1.1 })
+publisher_coded {T} v = coded_via (coded× table_id_coded (coded× (coded_list v) (coded× coded_ℕ (coded× v (coded× coded_ℕ (coded× coded_ℕ coded_ℕ)))))) (λ (s : PublisherState T). (s.cell, (s.published, (s.number, (s.value, (s.readers, (s.noted, s.ready)))))))
+    (λ x y e i. record { cell = (e i).0; published = (e i).1.0; number = (e i).1.1.0; value = (e i).1.1.1.0; readers = (e i).1.1.1.1.0; noted = (e i).1.1.1.1.1.0; ready = (e i).1.1.1.1.1.1 })
 
 -- what a seat has seen published (own)
 abbrev pub values_of : {T : Type 0} → View T → List T
@@ -135,9 +136,9 @@ first_reader cell value = record { cell = cell; seen = value ∷ []; left = deal
 abbrev pub limited_reader : {T : Type 0} → ℕ → TableId → T → ReaderState T
 limited_reader grants cell value = record { cell = cell; seen = value ∷ []; left = grants; gone = [] }
 
--- the publisher of a new cell (own)
-abbrev pub first_publisher : {T : Type 0} → TableId → T → PublisherState T
-first_publisher cell value = record { cell = cell; published = value ∷ []; number = 0; value = value; noted = 0; ready = 0 }
+-- the publisher of a new cell with so many readers (own)
+abbrev pub first_publisher : {T : Type 0} → TableId → T → ℕ → PublisherState T
+first_publisher cell value readers = record { cell = cell; published = value ∷ []; number = 0; value = value; readers = readers; noted = 0; ready = 0 }
 
 -- the version is the last of these values (own)
 abbrev pub IsLastOf : {T : Type 0} → List T → Version T → Type 0
@@ -161,11 +162,11 @@ IsUpgraded before after version None = (after ≡ record before { gone = version
 
 -- a publication: one value more is published, with the next number, in one of the free slots if some were counted (own)
 abbrev pub published_next : {T : Type 0} → PublisherState T → T → PublisherState T
-published_next state value = record { cell = state.cell; published = state.published ++ value ∷ []; number = state.number + 1; value = value; noted = state.noted; ready = state.ready - 1 }
+published_next state value = record { cell = state.cell; published = state.published ++ value ∷ []; number = state.number + 1; value = value; readers = state.readers; noted = state.noted; ready = state.ready - 1 }
 
 -- a weak owner more is given (own)
 abbrev pub noted_next : {T : Type 0} → PublisherState T → PublisherState T
-noted_next state = record { cell = state.cell; published = state.published; number = state.number; value = state.value; noted = state.noted + 1; ready = state.ready }
+noted_next state = record { cell = state.cell; published = state.published; number = state.number; value = state.value; readers = state.readers; noted = state.noted + 1; ready = state.ready }
 
 -- so many free slots are counted (own)
 abbrev pub ready_for : {T : Type 0} → PublisherState T → ℕ → PublisherState T

@@ -1,5 +1,5 @@
 //! The cell, and its calls.
-ghost use Rattle.std.specs.Prelude.{◌≡◌, ◌⊎◌, ◌↔◌, ◌<◌, ◌≤◌, ◌-◌, ◌^◌, min, [], ◌∷◌, vec_len, IfOk, IfErr, IsErrOf};
+ghost use Rattle.std.specs.Prelude.{◌≡◌, ◌≢◌, None, ◌⊎◌, ◌↔◌, ◌<◌, ◌≤◌, ◌-◌, ◌^◌, min, [], ◌∷◌, vec_len, IfOk, IfErr, IsErrOf};
 ghost use Rattle.std.specs.Vec.{vec_capacity};
 ghost use Rattle.std.specs.List.{All};
 ghost use Rattle.cell_core.specs.Words.{slots, notes};
@@ -16,8 +16,8 @@ use crate::tokens::{LOADS, Publisher, READERS, Reader};
 use atomic_table::{Badge, Table};
 use cell_core::{NOTES, Version};
 use counted_handles::{
-    Made, Names, NoSlot, Room, Rule, Spots, Strong, View, Weak, Words, deal, deal_rest, make,
-    unmake,
+    InUse, Made, Names, NoSlot, Room, Rule, Spots, Strong, View, Weak, Words, deal, deal_rest,
+    make, unmake,
 };
 use raw_slots::Bare;
 use std::alloc::Global;
@@ -56,7 +56,7 @@ pub struct Parts<T, C: Names<T>> {
     pub readers: Vec<Reader<T>>,
 }
 
-/// The cell is still in use: all three come back as they were.
+/// The cell is still in use: all three come back as they were, with the reason.
 pub struct StillOut<T, C: Names<T>> {
     /// The cell.
     pub cell: Cell<T, C>,
@@ -64,6 +64,8 @@ pub struct StillOut<T, C: Names<T>> {
     pub publisher: Publisher<T, C>,
     /// The readers that were given back.
     pub readers: Vec<Reader<T>>,
+    /// That a load has shown that somebody has a version. None where a reader isn't given back.
+    pub in_use: Option<InUse>,
 }
 
 // So many readers, which may make so many loads, go off the publisher's token of a new cell.
@@ -100,7 +102,7 @@ impl<T: Drop, C: Names<T>> Cell<T, C> {
     /// was refused. At both the value is dropped.
     pub fn new(alloc: Global, readers: usize, first: T) -> Result<Parts<T, C>, NewFault>
         requires { C.begins first }
-        ensures publisher { IfOk result (λ parts. parts.publisher ≡ first_publisher parts.cell first) }
+        ensures publisher { IfOk result (λ parts. parts.publisher ≡ first_publisher parts.cell first readers) }
         ensures readers { IfOk result (λ parts. All (λ r. r ≡ first_reader parts.cell first) parts.readers.items × (vec_len parts.readers ≡ readers)) }
         ensures too_many { IsErrOf result NewFault.TooManyReaders ↔ (READERS < readers) }
     {
@@ -115,7 +117,7 @@ impl<T: Drop, C: Names<T>> Cell<T, C> {
         grants: u64,
     ) -> Result<Parts<T, C>, NewFault>
         requires { C.begins first }
-        ensures publisher { IfOk result (λ parts. parts.publisher ≡ first_publisher parts.cell first) }
+        ensures publisher { IfOk result (λ parts. parts.publisher ≡ first_publisher parts.cell first readers) }
         ensures readers { IfOk result (λ parts. All (λ r. r ≡ limited_reader (min grants dealt_grants) parts.cell first) parts.readers.items × (vec_len parts.readers ≡ readers)) }
         ensures too_many { IsErrOf result NewFault.TooManyReaders ↔ (READERS < readers) }
     {
@@ -239,7 +241,7 @@ impl<T: Drop, C: Names<T>> Cell<T, C> {
     }
 
     /// Ends the cell, and gives the value published last. [`StillOut`] with all three as they were where a reader isn't given back,
-    /// or where somebody has an owner of a version. It waits for nobody and takes no memory.
+    /// or where a load has shown that somebody has a version. It waits for nobody and takes no memory.
     pub fn close(
         self,
         publisher: Publisher<T, C>,
@@ -249,16 +251,18 @@ impl<T: Drop, C: Names<T>> Cell<T, C> {
         requires readers { All (λ r. r.cell ≡ self) readers.items }
         ensures value { IfOk result (λ value. value ≡ publisher.value) }
         ensures out { IfErr result (λ out. (out.cell ≡ self) × (out.publisher ≡ publisher) × (out.readers.items ≡ readers.items)) }
+        ensures few { IfErr result (λ out. out.in_use ≡ None → vec_len readers ≢ publisher.readers) }
     {
         match end_all(self.words(), publisher, &mut readers) {
             Ok((value, badge)) => {
                 self.free(badge);
                 Ok(value)
             }
-            Err(publisher) => Err(StillOut {
+            Err((publisher, in_use)) => Err(StillOut {
                 cell: self,
                 publisher,
                 readers,
+                in_use,
             }),
         }
     }

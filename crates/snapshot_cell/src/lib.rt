@@ -19,7 +19,9 @@ mod ready;
 mod tokens;
 
 pub use cell::{Cell, Parts, StillOut};
-pub use counted_handles::{Lapse, Lapsed, Names, NoSlot, Released, Steps, Strong, Weak};
+pub use counted_handles::{
+    FreeCount, InUse, Lapse, Lapsed, Names, NoSlot, Released, Steps, Strong, Weak,
+};
 pub use fault::{NewFault, Spent};
 pub use further::NamedWeak;
 pub use named::{NamedCell, NamedPublisher, NamedReader, NamedStillOut, Naming};

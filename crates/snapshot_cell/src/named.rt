@@ -1,5 +1,5 @@
 //! A cell and its tokens that a type names: what has the same name belongs together, so no call asks for it.
-ghost use Rattle.std.specs.Prelude.{◌≡◌, ◌⊎◌, ◌+◌, ◌<◌, ◌-◌, ◌^◌, IfOk, IfErr};
+ghost use Rattle.std.specs.Prelude.{◌≡◌, ◌≢◌, ◌⊎◌, ◌+◌, ◌<◌, ◌-◌, ◌^◌, None, vec_len, IfOk, IfErr};
 ghost use Rattle.cell_core.specs.Words.{slots, notes};
 ghost use Rattle.counted_handles.specs.History.{IsHistory};
 ghost use Rattle.counted_handles.specs.Ruled.{Begins};
@@ -12,7 +12,7 @@ use crate::further::NamedWeak;
 use crate::named_ending::end_all_named;
 use crate::named_owner::NamedStrong;
 use crate::tokens::{Publisher, Reader};
-use counted_handles::{Names, NoSlot};
+use counted_handles::{FreeCount, InUse, Names, NoSlot};
 use std::marker::{Brand, Model, PhantomData};
 
 /// Which cell it is. Each call of a program that runs a cell picks it.
@@ -73,7 +73,7 @@ impl<T, C: Names<T>, N: Naming> Model for NamedPublisher<T, C, N> {
     ghost invariant = { λ a. a.publisher.cell ≡ N.cell };
 }
 
-/// The cell of this name is still in use: all three come back as they were.
+/// The cell of this name is still in use: all three come back as they were, with the reason.
 pub struct NamedStillOut<T, C: Names<T>, N: Naming> {
     /// The cell.
     pub cell: NamedCell<T, C, N>,
@@ -81,6 +81,8 @@ pub struct NamedStillOut<T, C: Names<T>, N: Naming> {
     pub publisher: NamedPublisher<T, C, N>,
     /// The readers that were given back.
     pub readers: Vec<NamedReader<T, N>>,
+    /// As of [`StillOut`](crate::StillOut).
+    pub in_use: Option<InUse>,
 }
 
 impl<T, N: Naming> NamedReader<T, N> {
@@ -186,6 +188,7 @@ impl<T: Drop, C: Names<T>, N: Naming> NamedCell<T, C, N> {
     ) -> Result<T, NamedStillOut<T, C, N>>
         ensures value { IfOk result (λ value. value ≡ publisher.value) }
         ensures out { IfErr result (λ out. (out.publisher ≡ publisher) × (out.readers.items ≡ readers.items)) }
+        ensures few { IfErr result (λ out. out.in_use ≡ None → vec_len readers ≢ publisher.readers) }
     {
         let NamedCell { cell, names: _ } = self;
         let NamedPublisher {
@@ -197,16 +200,17 @@ impl<T: Drop, C: Names<T>, N: Naming> NamedCell<T, C, N> {
                 cell.free(badge);
                 Ok(value)
             }
-            Err(publisher) => Err(NamedStillOut {
+            Err((publisher, in_use)) => Err(NamedStillOut {
                 cell: NamedCell::of(cell),
                 publisher: NamedPublisher::of(publisher),
                 readers,
+                in_use,
             }),
         }
     }
 
     /// As [`Cell::count`].
-    pub fn count(&self, publisher: &mut NamedPublisher<T, C, N>) -> usize
+    pub fn count(&self, publisher: &mut NamedPublisher<T, C, N>) -> FreeCount
         ensures { publisher.new ≡ ready_for publisher.old result }
     {
         self.cell.count(&mut publisher.publisher)

@@ -36,8 +36,8 @@ impl<T> Model for Reader<T> {
     ghost invariant = { λ a. IsReader a.badge.table_id a.badge.views a.left };
 }
 
-/// The one who publishes. Contracts see its cell, the values that are published, the last one with its number, how many weak owners it
-/// has given, and how many free slots it has counted and not used since.
+/// The one who publishes. Contracts see its cell, the values that are published, the last one with its number, how many readers there are,
+/// how many weak owners it has given, and how many free slots it has counted and not used since.
 #[derive(Drop)]
 pub struct Publisher<T, C: Names<T>> {
     pub(crate) badge: Badge<View<T>>,
@@ -57,7 +57,7 @@ impl<T, C: Names<T>> Model for Publisher<T, C> {
 
     ghost coded = { publisher_coded T.code };
 
-    ghost view = { λ a. record { cell = a.badge.table_id; published = published_in a.badge.views; number = a.number; value = a.last.value; noted = a.noted; ready = a.ready } };
+    ghost view = { λ a. record { cell = a.badge.table_id; published = published_in a.badge.views; number = a.number; value = a.last.value; readers = a.readers; noted = a.noted; ready = a.ready } };
 
     ghost invariant = { λ a. IsPublisher C.begins C.follows a.badge.table_id a.badge.id a.badge.views a.spare.table_id a.spare.views a.number a.last.value a.readers a.noted a.ready };
 }

@@ -7,8 +7,8 @@ use Rattle.std.specs.Int.{w16, to_be_bytes}
 use Rattle.dns_message.specs.Frame.{frame_of, frame_in}
 use Rattle.dns_message.specs.Message.{number_at}
 use Rattle.requests.specs.Octets.{frames_of}
-use Rattle.requests.specs.Served.{Learned, Grows}
-use Rattle.requests.specs.Exchange.{Exchange}
+use Rattle.tcp_connections.specs.Served.{Knowledge, Extends}
+use Rattle.tcp_connections.specs.Exchange.{Exchange}
 use Rattle.tcp_connections.specs.Kept.{Kept, due}
 
 -- octets are below 256, and so are those at their front
@@ -94,9 +94,9 @@ some_ready ready new message pushed = λ none.
     let two : length (frame_of message) ≡ 2 + length message = length-append (to_be_bytes w16 (length message)) message in
     absurd (omega (arith, size, two, length-append ready (frame_of message)))
 
-module _ {T : Type 0} (IsReply : Learned T → Learned T → List ℕ → List (List ℕ) → Type 0) where
+module _ {T : Type 0} (IsReply : Knowledge T → Knowledge T → List ℕ → List (List ℕ) → Type 0) where
   -- a request is answered
-  pub turn_made : (seen later : Learned T) (held owed left more request : List ℕ) (messages : List (List ℕ)) → Grows later seen → IsReply seen later request messages
+  pub turn_made : (seen later : Knowledge T) (held owed left more request : List ℕ) (messages : List (List ℕ)) → Extends later seen → IsReply seen later request messages
       → held ≡ frame_of request ++ left → more ≡ owed ++ frames_of messages → Exchange IsReply seen (held, owed) later (left, more)
   turn_made seen later held owed left more request messages grows reply input output = record {
     request = request;

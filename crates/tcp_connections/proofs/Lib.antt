@@ -9,6 +9,7 @@ pub mod PassLemmas
 pub mod PlaceLemmas
 pub mod QueueLemmas
 pub mod ReplyFromLemmas
+pub mod StreamOctetLemmas
 pub mod SurveyLemmas
 pub mod SweepLemmas
-pub mod StreamOctetLemmas
+pub mod TurnLemmas

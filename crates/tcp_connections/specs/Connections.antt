@@ -2,7 +2,7 @@
 use Rattle.std.specs.Prelude.{◌≡◌, ◌⊎◌, ℕ, List, Option, None, Some, IfSome, ⊤, if◌then◌else◌}
 use Rattle.std.specs.declared.net.socket_addr.SocketAddr.{SocketAddr}
 use Rattle.tcp_connections.specs.declared.group.PeerGroup.{PeerGroup}
-use Rattle.requests.specs.Served.{Learned, Grows}
+use Rattle.tcp_connections.specs.Served.{Knowledge, Extends}
 use Rattle.requests.specs.declared.stream_end.StreamEnd.{StreamEnd}
 use Rattle.tcp_connections.specs.Kept.{Kept, told_by, awaited}
 use Rattle.tcp_connections.specs.StreamOctets.{Writes}
@@ -31,19 +31,19 @@ told_of seen = told_by seen.kept seen.octets
 
 -- what a reply is, by the address of the peer, the list of what is known to be published before it and that of what is known when it is made,
 -- the request, and the reply's messages
-module _ {T : Type 0} (IsReply : SocketAddr → Learned T → Learned T → List ℕ → List (List ℕ) → Type 0) where
+module _ {T : Type 0} (IsReply : SocketAddr → Knowledge T → Knowledge T → List ℕ → List (List ℕ) → Type 0) where
   -- a connection has ended, with all its requests answered as those from its peer's address, or some of them
-  pub record HasEnded (seen : Learned T) (old : Seen) (later : Learned T) : Type 0 where
+  pub record HasEnded (seen : Knowledge T) (old : Seen) (later : Knowledge T) : Type 0 where
     pub end : StreamEnd
-    pub known : Learned T
+    pub known : Knowledge T
     pub octets : Option (List ℕ × List ℕ)
-    pub grown : Grows later known
+    pub grown : Extends later known
     pub stops : Stops (IsReply old.from) end seen (told_of old) known octets
     pub written : Writes old.octets octets
 
   -- a connection has gone on at a time: its peer's address, the group of that, and its window are as before, on its own stream that peer's
   -- requests are answered as those from that address, and the peer is waited for from now, or from when it was if it has finished nothing
-  pub record HasGone (now : ℕ) (seen : Learned T) (old : Seen) (later : Learned T) (new : Seen) : Type 0 where
+  pub record HasGone (now : ℕ) (seen : Knowledge T) (old : Seen) (later : Knowledge T) (new : Seen) : Type 0 where
     pub from : new.from ≡ old.from
     pub group : new.group ≡ old.group
     pub window : new.window ≡ old.window
@@ -52,7 +52,7 @@ module _ {T : Type 0} (IsReply : SocketAddr → Learned T → Learned T → List
     pub begun : IsBegun now old.kept.passed old.begun new.kept.passed new.begun
 
   -- what became of the connection under a key: none appears, one that is gone has ended, and one that is there has gone on
-  abbrev pub OwnServed : ℕ → Learned T → Option Seen → Learned T → Option Seen → Type 0
+  abbrev pub OwnServed : ℕ → Knowledge T → Option Seen → Knowledge T → Option Seen → Type 0
   OwnServed now seen None later None = ⊤
   OwnServed now seen None later (Some new) = ⊥
   OwnServed now seen (Some old) later None = HasEnded seen old later

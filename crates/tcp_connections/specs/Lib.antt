@@ -7,5 +7,7 @@ pub mod Kept
 pub mod Connections
 pub mod Places
 pub mod Rate
-pub mod Survey
+pub mod Served
 pub mod StreamOctets
+pub mod Survey
+pub mod Exchange

@@ -4,7 +4,7 @@ ghost use Rattle.dns_message.specs.Message.{message_limit};
 ghost use Rattle.zone_tree.specs.Version.{Version};
 ghost use Rattle.requests.specs.Allowed.{IsReplyFrom, IsLaterFrom};
 ghost use Rattle.serve_core.specs.declared.transport.Transport.TheVariants.{Tcp};
-ghost use Rattle.requests.specs.Served.{Learned};
+ghost use Rattle.tcp_connections.specs.Served.{Knowledge};
 ghost use Rattle.requests.specs.declared.stream_end.StreamEnd.{StreamEnd as EndOf};
 ghost use Rattle.serve_core.specs.declared.peer.Peer.{Peer as PeerAsking};
 ghost use Rattle.tcp_connections.specs.Asked.{EachGrows};
@@ -43,9 +43,9 @@ pub enum Reply<M> {
 /// which requests it may answer later.
 pub trait Handler<M: Messages> {
     /// What is known of versions, by the key of a connection: those that are published, the first one first, and the numbers of those that
-    /// are buried. If a connection's request is to be answered later, what was known when that request was taken up; otherwise what is
-    /// known.
-    ghost seen: { Self → ℕ → Learned Version };
+    /// are buried. It is what was known when the first of the connection's requests that are to be answered later was taken up, or what is
+    /// known if there is none; and what is known.
+    ghost seen: { Self → ℕ → Knowledge Version };
 
     /// The peer that sends the request.
     ghost peer: { Self → PeerAsking };
@@ -55,7 +55,7 @@ pub trait Handler<M: Messages> {
 
     /// What the messages of a reply to a request are, by the peer, by the versions known before the reply, and by those known when it is
     /// made.
-    ghost is_reply: { PeerAsking → Learned Version → Learned Version → List ℕ → List (List ℕ) → Type 0 };
+    ghost is_reply: { PeerAsking → Knowledge Version → Knowledge Version → List ℕ → List (List ℕ) → Type 0 };
 
     /// Which requests may be answered later, by the peer.
     ghost is_later: { PeerAsking → List ℕ → Type 0 };
@@ -92,6 +92,14 @@ pub trait Handler<M: Messages> {
         ensures later { IfOk result (λ reply. reply ≡ Reply.Later → is_later (peer self.old) request.now) }
         ensures end { IfErr result (λ end. (end ≡ EndOf.Spent) ⊎ (end ≡ EndOf.NoMemory)) }
         ensures spent { IfErr result (λ end. end ≡ EndOf.Spent → spent self.new) };
+
+    /// Takes up a request that comes after one whose reply is to be made later, with so many requests between the two, all of which are taken
+    /// up: whether it is, and its reply is to be made later, too. If not, it is answered in its turn.
+    fn prepare<R: Wait>(&mut self, rt: &R, between: usize, request: &[u8], out: &mut [u8]) -> bool
+        requires { message_limit ≤ length out.old }
+        ensures same { peer self.new ≡ peer self.old }
+        ensures asker { asker self.new ≡ asker self.old }
+        ensures grows { EachGrows (seen self.new) (seen self.old) };
 }
 
 /// The reply to a request, as that of the peer that rules make of who sends it from an address. The connection ends if there is no memory to read
@@ -123,4 +131,27 @@ pub(crate) fn reply_from<R: Wait, M: Messages, A: Handler<M>>(
         Ok(reply) => Ok(reply),
         Err(end) => Err(end),
     }
+}
+
+/// Takes up a request that comes after one whose reply is to be made later, with so many requests between the two, as that of the peer that rules
+/// make of who sends it from an address: whether it is. It isn't if there is no memory to read an update.
+#[tactic(auto, using(crate::proofs::AskedLemmas::each_itself))]
+pub(crate) fn prepare_from<R: Wait, M: Messages, A: Handler<M>>(
+    rt: &R,
+    handler: &mut A,
+    allowed: Allowed<'_>,
+    from: SocketAddr,
+    between: usize,
+    request: &[u8],
+    out: &mut [u8],
+) -> bool
+    requires { message_limit ≤ length out.old }
+    ensures asker { A.asker handler.new ≡ A.asker handler.old }
+    ensures grows { EachGrows (A.seen handler.new) (A.seen handler.old) }
+{
+    let Ok(sender) = allowed.peer(from, Transport::Tcp, request) else {
+        return false;
+    };
+    handler.set_peer(sender);
+    handler.prepare(rt, between, request, out)
 }

@@ -3,7 +3,8 @@
 //! A [`ConnectionState`] is given the octets that came, and gives those that are to be sent. It holds a request until it is answered, and
 //! replies until they are written: the frames of the replies, in the order of the requests. [`serve_some`] moves octets between it and a
 //! stream, by a bounded share; [`serve_stream`] serves a stream to its end. While anything is to be written, nothing more is read. A
-//! request whose reply is made later stays held, and those after it, until it is answered.
+//! request whose reply is made later stays held, and those after it, until it is answered; those that may be answered
+//! later, too, are taken up with it.
 //!
 //! A [`Connection`] of a worker thread is that machine with its peer, under a key. [`serve_ready`] serves those under some keys by a share
 //! each: each by its own peer's rights, on its own stream, and none is removed except those that end. [`sweep`] ends those whose peers take

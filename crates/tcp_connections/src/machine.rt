@@ -4,16 +4,17 @@ ghost use Rattle.dns_message.specs.Frame.{frame_in};
 ghost use Rattle.dns_message.specs.Message.{message_limit};
 ghost use Rattle.requests.specs.Octets.{frames_of};
 ghost use Rattle.requests.specs.Allowed.{IsReplyFrom, IsLaterFrom};
-ghost use Rattle.requests.specs.Exchange.{Exchange};
+ghost use Rattle.tcp_connections.specs.Exchange.{Exchange};
 ghost use Rattle.requests.specs.declared.stream_end.StreamEnd.{StreamEnd as EndOf};
 ghost use Rattle.serve_core.specs.declared.transport.Transport.TheVariants.{Tcp};
 ghost use Rattle.tcp_connections.specs.Asked.{EachGrows, Waits};
 ghost use Rattle.tcp_connections.specs.Kept.{nothing_kept, due, IsFull, IsWaiting, awaited, messages_of, one_passed, passed_behind, taken_behind};
 
-use crate::handler::{Handler, Messages, Reply, reply_from};
+use crate::handler::{Handler, Messages, Reply, prepare_from, reply_from};
 use crate::queue::{Queue, first_frame};
 use crate::step::Step;
 use crate::waiting::Waiting;
+use dns_message::take_frame;
 use requests::{Allowed, StreamEnd};
 use std::alloc::{AllocError, Global};
 use std::marker::Model;
@@ -22,6 +23,9 @@ use std::sync::Wait;
 
 /// With so many octets to be written no further request is answered, so that a share is as short for long replies (own).
 const MOST_DUE: usize = 16_384;
+
+/// So many requests wait at most after the first that waits for its reply (own).
+const MOST_PREPARED: usize = 63;
 
 /// A connection's requests and replies: octets that came and aren't answered, and octets and messages that are to be sent.
 pub struct ConnectionState<M: Messages> {
@@ -181,8 +185,8 @@ impl<M: Messages> ConnectionState<M> {
 
     /// Answers the first whole request that is held, as that of the peer that rules make of who sends it from an address, and adds the reply after
     /// what is to be written: `More`. If so much is to be written that
-    /// this comes first, it is `Full`, and if no whole request is held, `Done`. The connection ends if no version can be loaded, or there is no
-    /// memory for the reply or to read an update. Unless the request is answered, nothing changes. It is here alone that the length of a request's
+    /// this comes first, it is `Full`, and if no whole request is held, `Done`. While it waits for its reply, those after it are taken up. The connection
+    /// ends if no version can be loaded, or there is no memory for the reply or to read an update. Unless the request is answered, nothing changes. It is here alone that the length of a request's
     /// frame is read before the request is answered (RFC 1035, 4.2.2).
     #[tactic(auto, using(crate::proofs::AskedLemmas::each_itself))]
     pub fn answer<R: Wait, A: Handler<M>>(
@@ -219,6 +223,14 @@ impl<M: Messages> ConnectionState<M> {
             Err(end) => return Err(end),
         };
         if let Reply::Later = reply {
+            prepare_next(
+                rt,
+                handler,
+                allowed,
+                from,
+                &self.held.as_slice()[count..],
+                out,
+            );
             return Ok(Step::Later);
         }
         match self.queue(reply, out) {
@@ -270,6 +282,33 @@ impl<M: Messages> ConnectionState<M> {
         };
         self.ready.push_frame(&out[..len])?;
         Ok(())
+    }
+}
+
+/// Has requests taken up that come after one that waits for its reply: the whole ones that octets hold, in their order, up to the first that
+/// isn't taken up, and at most 63. Each is taken up as that of the peer that rules make of who sends it from an address.
+#[tactic(auto, using(crate::proofs::AskedLemmas::each_itself))]
+fn prepare_next<R: Wait, M: Messages, A: Handler<M>>(
+    rt: &R,
+    handler: &mut A,
+    allowed: Allowed<'_>,
+    from: SocketAddr,
+    octets: &[u8],
+    out: &mut [u8],
+)
+    requires { message_limit ≤ length out.old }
+    ensures asker { A.asker handler.new ≡ A.asker handler.old }
+    ensures grows { EachGrows (A.seen handler.new) (A.seen handler.old) }
+{
+    let mut left = octets;
+    for between in 0..MOST_PREPARED {
+        let Some((request, rest)) = take_frame(left) else {
+            return;
+        };
+        if !prepare_from(rt, handler, allowed, from, between, request, out) {
+            return;
+        }
+        left = rest;
     }
 }
 

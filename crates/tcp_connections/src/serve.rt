@@ -198,7 +198,8 @@ pub(crate) fn write_and_read<M: Messages, S: Blocking>(
 /// answers requests that are held, writes what is to be written, and reads once if no whole request is held and nothing is left to be written. If
 /// the stream reports its octets, what is written and what is to be written is the frames of the replies to the requests that are read, in their
 /// order, each by what was known then to be published. If the stream ends by itself, all of it is written, otherwise a prefix of it (RFC 1035,
-/// 4.2.2; RFC 7766, 6.2.1.1). If a reply is made later, the requests after it wait, and nothing more is read.
+/// 4.2.2; RFC 7766, 6.2.1.1). If a reply is made later, the requests after it wait, those that may be answered later, too, are taken up with it, and
+/// nothing more is read.
 pub fn serve_some<R: Wait, M: Messages, A: Handler<M>, S: Blocking>(
     rt: &R,
     handler: &mut A,

@@ -3,7 +3,7 @@ ghost use Rattle.std.specs.Prelude.{◌≡◌, ◌⊎◌, ◌-◌, ◌^◌, ◌<
 ghost use Rattle.dns_message.specs.Frame.{frame_in};
 ghost use Rattle.dns_message.specs.Message.{message_limit};
 ghost use Rattle.requests.specs.Allowed.{IsReplyFrom};
-ghost use Rattle.requests.specs.Served.{EndsAs};
+ghost use Rattle.tcp_connections.specs.Served.{EndsAs};
 ghost use Rattle.requests.specs.declared.stream_end.StreamEnd.{StreamEnd as End};
 ghost use Rattle.serve_core.specs.declared.transport.Transport.TheVariants.{Tcp};
 ghost use Rattle.tcp_connections.specs.Asked.{EachGrows};

@@ -3,7 +3,7 @@ use Rattle.std.proofs.Common.{◌≡◌, ◌≢◌, ℕ, Bool, true, false, if�
 use Rattle.std.specs.List.{Contains}
 use Rattle.std.proofs.lemmas.List.Elements.{All-weaker}
 use Rattle.std.specs.declared.net.socket_addr.SocketAddr.{SocketAddr}
-use Rattle.requests.specs.Served.{Learned}
+use Rattle.tcp_connections.specs.Served.{Knowledge}
 use Rattle.tcp_connections.specs.Asked.{EachGrows}
 use Rattle.tcp_connections.specs.Kept.{nothing_kept}
 use Rattle.slab.specs.Slab.{Slab, get, Updates}
@@ -98,20 +98,20 @@ module _ {S M : Type 0} (origin : S → SocketAddr) (octets : S → Option (List
         let here : GoOn would_block is_later new keys next = All-weaker (λ key. Contains next key ⊎ HasStopped would_block is_later (get old key)) (λ key. Contains next key ⊎ HasStopped would_block is_later (get new key)) (going_for limits old new next swept) keys going in
         subst (λ (l : List ℕ). GoOn would_block is_later new l after) (sym same) (subst (λ (l : List ℕ). GoOn would_block is_later new keys l) (sym is) here)
 
-  module _ {T : Type 0} (IsReply : SocketAddr → Learned T → Learned T → List ℕ → List (List ℕ) → Type 0) where
+  module _ {T : Type 0} (IsReply : SocketAddr → Knowledge T → Knowledge T → List ℕ → List (List ℕ) → Type 0) where
     -- none is served, and maybe more is known
-    pub serves_none : (seen later : ℕ → Learned T) (connections : Slab (Connection S M)) → EachGrows later seen → Serves origin octets IsReply now seen connections later connections
+    pub serves_none : (seen later : ℕ → Knowledge T) (connections : Slab (Connection S M)) → EachGrows later seen → Serves origin octets IsReply now seen connections later connections
     serves_none seen later connections grows = λ key. own_same IsReply now (seen key) (later key) (option_map (seen_of octets) (get connections key)) (grows key)
 
-    pub serves_as : (seen later : ℕ → Learned T) (old new same : Slab (Connection S M)) → new ≡ same → Serves origin octets IsReply now seen old later same → Serves origin octets IsReply now seen old later new
+    pub serves_as : (seen later : ℕ → Knowledge T) (old new same : Slab (Connection S M)) → new ≡ same → Serves origin octets IsReply now seen old later same → Serves origin octets IsReply now seen old later new
     serves_as seen later old new same is own = subst (λ (s : Slab (Connection S M)). Serves origin octets IsReply now seen old later s) (sym is) own
 
     -- nothing is done in a turn
-    pub turned_none : (limits : Limits) (seen : ℕ → Learned T) (old new : Slab (Connection S M)) → new ≡ old → HasTurned origin octets IsReply limits now seen old seen new
+    pub turned_none : (limits : Limits) (seen : ℕ → Knowledge T) (old new : Slab (Connection S M)) → new ≡ old → HasTurned origin octets IsReply limits now seen old seen new
     turned_none limits seen old new same = record { come = old; served = old; first = stay; own = serves_none seen seen old (each_itself seen); last = inl same }
 
     -- a turn, at the time that was told
-    pub turned_whole : (limits : Limits) (reported : ℕ) (seen later : ℕ → Learned T) (old start come served new : Slab (Connection S M)) → now ≡ reported → start ≡ old → Moves origin octets now start come → Serves origin octets IsReply now seen come later served
+    pub turned_whole : (limits : Limits) (reported : ℕ) (seen later : ℕ → Knowledge T) (old start come served new : Slab (Connection S M)) → now ≡ reported → start ≡ old → Moves origin octets now start come → Serves origin octets IsReply now seen come later served
         → Sweeps origin octets limits now served new → HasTurned origin octets IsReply limits reported seen old later new
     turned_whole limits reported seen later old start come served new same still first own last =
         let moved : Moves origin octets now old come = subst (λ (s : Slab (Connection S M)). Moves origin octets now s come) still first in

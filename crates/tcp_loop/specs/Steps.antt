@@ -1,8 +1,8 @@
 -- What becomes of a worker thread's connections, from one state to the next (RFC 7766, 6.2; own).
 use Rattle.std.specs.Prelude.{◌≡◌, ◌≢◌, ℕ, ◌/◌, ◌⊎◌, List, All, Contains, Option, None, Some, option_map}
-use Rattle.requests.specs.Served.{Learned}
+use Rattle.tcp_connections.specs.Served.{Knowledge}
 use Rattle.std.specs.declared.net.socket_addr.SocketAddr.{SocketAddr}
-use Rattle.requests.specs.Served.{Learned}
+use Rattle.tcp_connections.specs.Served.{Knowledge}
 use Rattle.tcp_connections.specs.Kept.{nothing_kept}
 use Rattle.std.specs.Net.Socket.{socket_ip}
 use Rattle.tcp_connections.specs.Group.{IsGroupOf}
@@ -63,14 +63,14 @@ module _ {S M : Type 0} (origin : S → SocketAddr) (octets : S → Option (List
 
   -- what a reply is, by the address of the peer, the list of what is known to be published before it and that of what is known when it is made, the
   -- request, and the reply's messages
-  module _ {T : Type 0} (IsReply : SocketAddr → Learned T → Learned T → List ℕ → List (List ℕ) → Type 0) where
+  module _ {T : Type 0} (IsReply : SocketAddr → Knowledge T → Knowledge T → List ℕ → List (List ℕ) → Type 0) where
     -- connections are served at a time, each as its own peer's address has it and on its own stream
-    abbrev pub Serves : ℕ → (ℕ → Learned T) → Slab (Connection S M) → (ℕ → Learned T) → Slab (Connection S M) → Type 0
+    abbrev pub Serves : ℕ → (ℕ → Knowledge T) → Slab (Connection S M) → (ℕ → Knowledge T) → Slab (Connection S M) → Type 0
     Serves now seen old later new = (key : ℕ) → OwnServed IsReply now (seen key) (option_map (seen_of octets) (get old key)) (later key) (option_map (seen_of octets) (get new key))
 
     -- a turn at a time, by what is known on each connection to be published before it and after it: places are taken; connections are
     -- served; and places are given back
-    pub record HasTurned (limits : Limits) (now : ℕ) (seen : ℕ → Learned T) (old : Slab (Connection S M)) (later : ℕ → Learned T) (new : Slab (Connection S M)) : Type 0 where
+    pub record HasTurned (limits : Limits) (now : ℕ) (seen : ℕ → Knowledge T) (old : Slab (Connection S M)) (later : ℕ → Knowledge T) (new : Slab (Connection S M)) : Type 0 where
       pub come : Slab (Connection S M)
       pub served : Slab (Connection S M)
       pub first : Moves now old come
@@ -78,6 +78,6 @@ module _ {S M : Type 0} (origin : S → SocketAddr) (octets : S → Option (List
       pub last : Sweeps limits now served new
 
     -- turns, one after another
-    pub data Turned (limits : Limits) (seen : ℕ → Learned T) (old : Slab (Connection S M)) : (ℕ → Learned T) → Slab (Connection S M) → Type 0 where
+    pub data Turned (limits : Limits) (seen : ℕ → Knowledge T) (old : Slab (Connection S M)) : (ℕ → Knowledge T) → Slab (Connection S M) → Type 0 where
       unturned : Turned limits seen old seen old
-      turned : {mid later : ℕ → Learned T} {between new : Slab (Connection S M)} (now : ℕ) → Turned limits seen old mid between → HasTurned limits now mid between later new → Turned limits seen old later new
+      turned : {mid later : ℕ → Knowledge T} {between new : Slab (Connection S M)} (now : ℕ) → Turned limits seen old mid between → HasTurned limits now mid between later new → Turned limits seen old later new

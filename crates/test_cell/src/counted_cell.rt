@@ -202,6 +202,7 @@ impl CountedCell {
                     cell,
                     publisher,
                     readers,
+                    in_use: _,
                 },
             ) => Err(CountedCell {
                 cell,

@@ -85,6 +85,7 @@ impl<N: Naming> Named<N> {
                 cell,
                 publisher,
                 readers,
+                in_use: _,
             },
         ) = cell.close(publisher, readers)
         else {

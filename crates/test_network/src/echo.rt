@@ -46,6 +46,9 @@ pub(crate) struct Echo {
     pub(crate) asked: u32,
     /// The key of the connection whose reply to such a request is ready. Without it the reply is made later.
     pub(crate) made: Option<usize>,
+    /// The number of calls that ask for such a request to be taken up before its turn, and how many were between it and the first in the last one.
+    pub(crate) prepared: u32,
+    pub(crate) between: usize,
 }
 
 impl Echo {
@@ -57,6 +60,8 @@ impl Echo {
             left,
             asked: 0,
             made: None,
+            prepared: 0,
+            between: 0,
         }
     }
 
@@ -98,7 +103,7 @@ impl Echo {
 }
 
 impl Handler<Both> for Echo {
-    ghost seen = { λ _ _. record { published = []; buried = [] } };
+    ghost seen = { λ _ _. record { asked = record { published = []; buried = [] }; latest = record { published = []; buried = [] } } };
 
     ghost peer = { λ echo. echo.peer };
 
@@ -139,5 +144,20 @@ impl Handler<Both> for Echo {
             })),
             _ => Ok(Reply::One(self.message(request, out))),
         }
+    }
+
+    fn prepare<R: Wait>(
+        &mut self,
+        _rt: &R,
+        between: usize,
+        request: &[u8],
+        _out: &mut [u8],
+    ) -> bool {
+        if request.first() != Some(&b'u') {
+            return false;
+        }
+        self.prepared = self.prepared.saturating_add(1);
+        self.between = between;
+        true
     }
 }

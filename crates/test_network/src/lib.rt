@@ -1,5 +1,5 @@
 //! Tests of `tcp_connections`: streams in memory that are read and written in pieces, that would block, and that end in each way, connections
-//! of several peers, and connections that take too long; of `tcp_loop`, over simulated polls; and of `sockets`: a worker's turns over sockets
+//! of several peers, requests that wait for their replies together, and connections that take too long; of `tcp_loop`, over simulated polls; and of `sockets`: a worker's turns over sockets
 //! of this machine, what the system does with a socket that is bound by it, and what it wouldn't were an option left out. In `memory` each memory
 //! allocation fails in turn. Of NOTIFY, in tables: octets that were written by hand, replies, and what is sent to whom as time goes.
 #![tactic(auto)]
@@ -26,6 +26,8 @@ mod on_sockets;
 mod pauses;
 #[cfg(test)]
 mod pieces;
+#[cfg(test)]
+mod pipelined;
 #[cfg(test)]
 mod player;
 #[cfg(test)]

@@ -20,7 +20,7 @@ pub(crate) struct Served {
     /// What is written on each of the connections that were added, in their order.
     pub(crate) outputs: Vec<Output>,
     pub(crate) ends: Ends,
-    echo: Echo,
+    pub(crate) echo: Echo,
     rules: Vec<Rule>,
     /// The keys of connections that could continue after the last share.
     next: Vec<usize>,

@@ -118,6 +118,7 @@ fn by_places<R: Wait, Z: FirstZone, N: ServerName>(
     peer: Peer,
 ) -> Option<MemoryStream> {
     let stream = MemoryStream::new(alloc, octets_of(alloc, REQUESTS)?, ROOM, 1_000).ok()?;
+    let rules = rules_if(alloc, peer.may_transfer)?;
     let log = Kept::new(alloc);
     let mut replies = ConnectionHandler::new(
         alloc,
@@ -127,7 +128,6 @@ fn by_places<R: Wait, Z: FirstZone, N: ServerName>(
         peer,
         asker(4711),
     );
-    let rules = rules_if(alloc, peer.may_transfer)?;
     let mut room = [0u8; 4_096];
     let mut out = [0u8; 65_535];
     let (_end, stream) = answer_stream(
@@ -141,7 +141,7 @@ fn by_places<R: Wait, Z: FirstZone, N: ServerName>(
         &mut room,
         &mut out,
     );
-    readers.push(replies.into_reader()).ok()?;
+    readers.push(replies.into_reader(rt)).ok()?;
     Some(stream)
 }
 

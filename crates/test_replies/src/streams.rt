@@ -264,7 +264,7 @@ pub(crate) fn serve<R: Wait, Z: FirstZone, N: ServerName, L: ServiceLog, G: Gate
         &mut room,
         &mut out,
     );
-    let _ = readers.push(replies.into_reader());
+    let _ = readers.push(replies.into_reader(rt));
     Some(served)
 }
 

@@ -1,5 +1,6 @@
 //! Updates that are submitted to the update thread. A queued update is submitted once, the same update from another client under the same key
-//! is another update, and an update that would make the queue exceed its limit of octets is answered at once.
+//! is another update, an update that would make the queue exceed its limit of octets is answered at once, and those that come after one that
+//! waits are submitted with it.
 use dns_engine::{FirstZone, VersionCell, VersionPublisher, VersionReader};
 use memory_devices::{Kept, Play, Played, asker, is_played, octets_of, server_of, zone};
 use serve_core::{Peer, Transport};
@@ -18,6 +19,12 @@ const UPDATE: &str =
 const MOST: Most = Most {
     items: 8,
     octets: 739,
+};
+
+/// The limits of a queue with room for eight such updates.
+const ROOMY: Most = Most {
+    items: 8,
+    octets: 10_000,
 };
 
 /// A query for the zone's SOA.
@@ -86,14 +93,60 @@ fn is_submitted_once<R: Wait, Z: FirstZone, N: ServerName>(
     Some(first && again && other && beside && asked && behind && full && room)
 }
 
+/// How many updates are queued. None if one came from elsewhere than the connection with the key 0.
+fn queued<R: Wait>(rt: &R, alloc: Global, queue: &Queue<QueuedUpdate>) -> Option<usize> {
+    let mut taken = Vec::with_capacity(alloc, 8).ok()?;
+    if !queue.take(rt, &mut taken) {
+        return None;
+    }
+    let is_own = taken.as_slice().iter().all(|update| {
+        matches!(
+            update.reply_to,
+            ReplyTo::Connection {
+                worker: 1,
+                key: 0,
+                ..
+            }
+        )
+    });
+    if is_own { Some(taken.len()) } else { None }
+}
+
+/// Whether the updates after one that waits are queued with it, each once and in its turn, while a query isn't; and whether another client under
+/// the same key begins anew.
+fn wait_together<R: Wait, Z: FirstZone, N: ServerName>(
+    rt: &R,
+    alloc: Global,
+    queue: &Queue<QueuedUpdate>,
+    replies: &mut ConnectionHandler<'_, '_, Z, N, Kept>,
+) -> Option<bool> {
+    let (update, query) = (octets_of(alloc, UPDATE)?, octets_of(alloc, QUERY)?);
+    let mut out = [0u8; 65_535];
+    replies.turn_to(asker(4711), 0);
+    replies.set_peer(updater());
+    let early = !replies.prepare(rt, 0, &update, &mut out);
+    let first = is_later(rt, replies, 4711, 0, &update)?;
+    let later = !replies.prepare(rt, 1, &update, &mut out);
+    let second = replies.prepare(rt, 0, &update, &mut out)
+        && replies.prepare(rt, 0, &update, &mut out);
+    let asked = !replies.prepare(rt, 1, &query, &mut out);
+    let third = replies.prepare(rt, 1, &update, &mut out);
+    let together = queued(rt, alloc, queue) == Some(3);
+    let waits = is_later(rt, replies, 4711, 0, &update)?;
+    let other = is_later(rt, replies, 4712, 0, &update)? && queued(rt, alloc, queue) == Some(1);
+    let anew = replies.prepare(rt, 0, &update, &mut out) && queued(rt, alloc, queue) == Some(1);
+    Some(early && first && later && second && asked && third && together && waits && other && anew)
+}
+
 /// The same, with one of the readers, which is put back.
 fn is_submitted<R: Wait, Z: FirstZone, N: ServerName>(
     rt: &R,
     alloc: Global,
     server: &Server<'_, Z, N>,
     readers: &mut Vec<VersionReader<N>>,
+    together: bool,
 ) -> Option<bool> {
-    let queue = Queue::new(alloc, MOST).ok()?;
+    let queue = Queue::new(alloc, if together { ROOMY } else { MOST }).ok()?;
     let log = Kept::new(alloc);
     let replies = ConnectionHandler::new(
         alloc,
@@ -107,13 +160,19 @@ fn is_submitted<R: Wait, Z: FirstZone, N: ServerName>(
         queue: &queue,
         worker: 1,
     });
-    let is_submitted = is_submitted_once(rt, alloc, &queue, &mut replies);
-    readers.push(replies.into_reader()).ok()?;
+    let is_submitted = if together {
+        wait_together(rt, alloc, &queue, &mut replies)
+    } else {
+        is_submitted_once(rt, alloc, &queue, &mut replies)
+    };
+    readers.push(replies.into_reader(rt)).ok()?;
     is_submitted
 }
 
-/// The test of updates that are submitted.
-struct Submitting;
+/// The test of updates that are submitted, or of those that wait together.
+struct Submitting {
+    together: bool,
+}
 
 impl Play for Submitting {
     fn play<R: Wait, Z: FirstZone, N: ServerName>(
@@ -136,7 +195,7 @@ impl Play for Submitting {
             alloc, cell, publisher, reader, ledgers,
         ) {
             Ok(server) => {
-                let outcome = is_submitted(rt, alloc, &server, &mut readers);
+                let outcome = is_submitted(rt, alloc, &server, &mut readers, self.together);
                 let (publisher, reader) = server.finish();
                 (outcome, publisher, reader)
             }
@@ -154,7 +213,16 @@ impl Play for Submitting {
 #[test]
 fn a_queued_update_is_submitted_once(rt: HostRuntime) {
     let passed = match zone(rt.alloc()) {
-        Some(zone) => is_played(&rt, rt.alloc(), zone, &Submitting),
+        Some(zone) => is_played(&rt, rt.alloc(), zone, &Submitting { together: false }),
+        None => None,
+    };
+    assert_eq!(rt; passed, Some(true));
+}
+
+#[test]
+fn updates_of_a_connection_wait_together(rt: HostRuntime) {
+    let passed = match zone(rt.alloc()) {
+        Some(zone) => is_played(&rt, rt.alloc(), zone, &Submitting { together: true }),
         None => None,
     };
     assert_eq!(rt; passed, Some(true));

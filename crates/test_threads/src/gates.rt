@@ -140,7 +140,7 @@ impl<'g, 's, Z: FirstZone + Send + Sync, N: ServerName + Send + Sync> Job
             &mut out,
         );
         gate.leave();
-        self.reader = Some(replies.into_reader());
+        self.reader = Some(replies.into_reader(rt));
         self.stream = Some(stream);
         self.datagrams = Some(datagrams);
     }

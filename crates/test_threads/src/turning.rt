@@ -160,7 +160,7 @@ impl Resting<Transfer> for Putting<'_> {
 }
 
 impl Handler<Transfer> for Putting<'_> {
-    ghost seen = { λ _ _. record { published = []; buried = [] } };
+    ghost seen = { λ _ _. record { asked = record { published = []; buried = [] }; latest = record { published = []; buried = [] } } };
 
     ghost peer = { λ putting. putting.peer };
 
@@ -194,6 +194,17 @@ impl Handler<Transfer> for Putting<'_> {
             self.wake_list.tell(rt, self.asker);
         }
         Ok(Reply::Later)
+    }
+
+    #[tactic(auto, using(tcp_connections::proofs::AskedLemmas::each_itself))]
+    fn prepare<R: Wait>(
+        &mut self,
+        _rt: &R,
+        _between: usize,
+        _request: &[u8],
+        _out: &mut [u8],
+    ) -> bool {
+        false
     }
 }
 

@@ -23,7 +23,7 @@ use zone_server::{SignsLater, TsigFault, TsigLog};
 
 /// A clock that stands still.
 #[derive(Drop)]
-struct Still(u64);
+pub(crate) struct Still(pub u64);
 
 impl UnixClock for Still {
     fn now(&self) -> u64 {
@@ -33,7 +33,7 @@ impl UnixClock for Still {
 
 /// A log that keeps nothing.
 #[derive(Drop)]
-struct NoLog;
+pub(crate) struct NoLog;
 
 impl TsigLog for NoLog {
     fn tell_fault<R: Wait>(
@@ -96,7 +96,7 @@ impl SignsLater for Fixed {
 }
 
 /// The address that the requests come from.
-fn client() -> SocketAddr {
+pub(crate) fn client() -> SocketAddr {
     SocketAddr::new(IpAddr::V4(Ipv4Addr::new(192, 0, 2, 7)), 5353)
 }
 

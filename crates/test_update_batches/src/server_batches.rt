@@ -11,8 +11,8 @@ use std::sync::Wait;
 use std::test::Fail;
 use update_batches::{Most, Put, Queue, UpdateThread};
 use zone_server::{
-    Poll, PublishRight, QueuedUpdate, ReplyTo, Serials, Server, ServerLedgers, ServerName,
-    ServerPublisher,
+    Fetched, PublishRight, QueuedUpdate, ReplyTo, Serials, Server, ServerLedgers, ServerName,
+    ServerPublisher, UpdateResult,
 };
 
 /// What is run over a server.
@@ -32,7 +32,7 @@ struct Outcome {
     /// The number of the version published last.
     number: u64,
     /// The result at the ticket of the second update.
-    fetched: Poll,
+    fetched: Option<UpdateResult>,
 }
 
 /// Queues the updates, of which the second gets a ticket. None if memory allocation fails.
@@ -84,8 +84,8 @@ fn are_sent(alloc: Global, sent: &SentReplies) -> Option<bool> {
 
 /// Whether the result of the second update is ready at its ticket: NOERROR, in the version in which the batch started or a later one, with its
 /// own serials.
-fn is_ready(alloc: Global, fetched: &Poll) -> Option<bool> {
-    let Poll::Ready(done) = fetched else {
+fn is_ready(alloc: Global, fetched: &Option<UpdateResult>) -> Option<bool> {
+    let Some(done) = fetched else {
         return Some(false);
     };
     let are_own = matches!(
@@ -106,6 +106,33 @@ fn is_right<R: Wait>(rt: &R, alloc: Global, outcome: &Outcome, log: &Kept) -> Op
         "update from 192.0.2.7:4711: NOERROR, serial 7 to 8;update from 192.0.2.7:4712: NOTZONE;";
     let replied = are_sent(alloc, &outcome.sent)? && is_ready(alloc, &outcome.fetched)?;
     Some(replied && outcome.number == 2 && log.has(rt, lines))
+}
+
+/// Makes a publisher with the reader, and has its update thread do one turn: the reader, and what was sent. On an error, what the test comes to: None if memory
+/// allocation fails.
+fn turn_once<R: Wait, Z: FirstZone, N: ServerName>(
+    rt: &R,
+    alloc: Global,
+    server: &Server<'_, Z, N>,
+    reader: VersionReader<N>,
+    right: PublishRight<N>,
+    queue: &Queue<QueuedUpdate>,
+    log: &Kept,
+) -> Result<(VersionReader<N>, SentReplies), (Option<bool>, Option<VersionReader<N>>)> {
+    let sent = SentReplies::new(alloc);
+    let publisher = match ServerPublisher::new(rt, alloc, server, reader, right, log, sent) {
+        Ok(publisher) => publisher,
+        Err(reader) => return Err((None, Some(reader))),
+    };
+    let mut thread = match UpdateThread::new(alloc, publisher, Store::Nowhere, queue) {
+        Ok(thread) => thread,
+        Err((publisher, _)) => return Err((None, Some(publisher.into_parts().0))),
+    };
+    if !matches!(thread.turn(rt), Ok(None)) {
+        return Err((Some(false), None));
+    }
+    let (publisher, _) = thread.into_parts();
+    Ok(publisher.into_parts())
 }
 
 /// Whether a batch of three updates has the expected results, and the reader. None if memory allocation fails.
@@ -132,21 +159,22 @@ fn judge_three<R: Wait, Z: FirstZone, N: ServerName>(
         return (None, Some(reader));
     };
     let ticket = opened.waits(&put);
-    let sent = SentReplies::new(alloc);
-    let publisher = match ServerPublisher::new(rt, alloc, server, reader, right, &log, sent) {
-        Ok(publisher) => publisher,
-        Err(reader) => return (None, Some(reader)),
+    let (mut reader, sent) = match turn_once(rt, alloc, server, reader, right, &queue, &log) {
+        Ok(turned) => turned,
+        Err(outcome) => {
+            server.leave(rt, ticket);
+            return outcome;
+        }
     };
-    let mut thread = match UpdateThread::new(alloc, publisher, Store::Nowhere, &queue) {
-        Ok(thread) => thread,
-        Err((publisher, _)) => return (None, Some(publisher.into_parts().0)),
-    };
-    if !matches!(thread.turn(rt), Ok(None)) {
-        return (Some(false), None);
-    }
-    let (publisher, _) = thread.into_parts();
-    let (mut reader, sent) = publisher.into_parts();
     let (number, fetched) = server.fetch(rt, &mut reader, ticket);
+    let fetched = match fetched {
+        Fetched::Ready(done) => Some(done),
+        Fetched::Unknown => None,
+        Fetched::Pending(ticket) => {
+            server.leave(rt, ticket);
+            None
+        }
+    };
     let outcome = Outcome {
         sent,
         number,

@@ -3,3 +3,4 @@ pub mod Ended
 pub mod Lost
 pub mod SignedNotify
 pub mod WokenKeys
+pub mod TakenKeys

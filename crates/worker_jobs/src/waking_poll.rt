@@ -1,5 +1,7 @@
 //! Waits that other threads can end.
-ghost use Rattle.std.specs.Prelude.{◌≡◌, IfOk};
+ghost use Rattle.std.specs.Prelude.{◌≡◌, ◌++◌, [], IfOk};
+ghost use Rattle.std.specs.Bool.{OnTrue};
+ghost use Rattle.worker_jobs.specs.TakenKeys.{taken_keys};
 
 use crate::wake_list::WakeList;
 use std::alloc::Global;
@@ -30,6 +32,18 @@ impl<'a, P: Drop> Drop for WakingPoll<'a, P> {
     fn drop(self) {
         let WakingPoll { poll: _, wakes: _ } = self;
     }
+}
+
+/// Moves keys to the end of others. False where there is no memory for all of them.
+fn move_keys(from: &mut Vec<usize>, to: &mut Vec<usize>) -> bool
+    ensures keys { OnTrue result (to.new.items ≡ to.old.items ++ from.old.items) }
+    ensures none { OnTrue result (from.new.items ≡ []) }
+{
+    if to.extend_from_slice(from.as_slice()).is_err() {
+        return false;
+    }
+    from.clear();
+    true
 }
 
 impl<'a, P> WakingPoll<'a, P> {
@@ -73,18 +87,14 @@ impl<'a, P> WakingPoll<'a, P> {
 
     /// Appends the woken keys that were taken to `keys`. False where there was no memory for all of them.
     fn put_woken(&mut self, keys: &mut Vec<usize>) -> bool
-        ensures { self.new.poll ≡ self.old.poll }
+        ensures poll { self.new.poll ≡ self.old.poll }
+        ensures keys { OnTrue result (keys.new.items ≡ keys.old.items ++ taken_keys self.old.wakes) }
+        ensures none { OnTrue result (taken_keys self.new.wakes ≡ []) }
     {
-        let Some(wakes) = &mut self.wakes else {
-            return true;
-        };
-        for key in wakes.woken.iter() {
-            if keys.push(*key).is_err() {
-                return false;
-            }
+        match &mut self.wakes {
+            Some(wakes) => move_keys(&mut wakes.woken, keys),
+            None => true,
         }
-        wakes.woken.clear();
-        true
     }
 }
 

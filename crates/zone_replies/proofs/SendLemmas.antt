@@ -18,6 +18,7 @@ use Rattle.rights.specs.contracts.rule.UpdateRight as update_right
 use Rattle.wire_names.specs.contracts.write.NameWriter as names
 use Rattle.zone_server.specs.declared.right.ServerName as server_names
 use Rattle.zone_server.proofs.ServerSendLemmas.{server_sync, sender_send}
+use Rattle.zone_server.specs.contracts.open_ticket.WaitingTicket as ticket
 use Rattle.zone_replies.specs.contracts.connection_handler.ConnectionHandler as replies
 use Rattle.zone_replies.specs.contracts.connection_handler.ConnectionHandler.TheInside as inside
 use Rattle.zone_replies.specs.contracts.pending_updates.PendingUpdates as taken
@@ -40,8 +41,11 @@ query_send = search (array_vec.the_send, option.the_field_send, crossing.crosses
 names_send : IsSend names.the_row
 names_send = search (array_vec.the_send, crossing.crosses, sendable) depth 60 fits 20000
 
+ticket_send : IsSend (ticket.the_field).row
+ticket_send = search (crossing.crosses, sendable) depth 60 fits 20000
+
 pending_send : (N : RattleType) (n : naming.Ghosts N.Denot) → IsSend (taken.the_row N n)
-pending_send N n = search (cell.crosses, option.the_field_send, option.the_send, crossing.crosses, sendable) depth 60 fits 20000
+pending_send N n = search (ticket_send, cell.crosses, option.the_field_send, option.the_send, crossing.crosses, sendable) depth 60 fits 20000
 
 module _ (a b : NamedLft) (T N L : RattleType) (g : Ghosts T.Denot) (n : naming.Ghosts N.Denot) (s : server_names.Ghosts N.Denot) (hears : IsSync L) where
   inside_send : IsSend (inside.the_row a b T N L n g s)

@@ -4,12 +4,14 @@ use Rattle.std.specs.declared.net.socket_addr.SocketAddr.{SocketAddr}
 use Rattle.zone_tree.specs.Version.{Version}
 use Rattle.snapshot_cell.specs.Tokens.{ReaderState}
 use Rattle.serve_core.specs.declared.peer.Peer.{Peer}
+use Rattle.zone_server.specs.declared.open_ticket.WaitingTicket.{WaitingTicket}
 
--- a pending update: the address of its peer, the ticket for its result, the number of the last version that was published when it was submitted, and
--- what the reader knew before
+-- updates that are pending on a connection: the address of its peer, the tickets for the result of the first one and for those of the ones after it,
+-- the number of the last version that was published when the first of those that waited together was submitted, and what the reader knew before
 pub record PendingState : Type 0 where
   pub from : SocketAddr
-  pub ticket : ℕ
+  pub ticket : WaitingTicket
+  pub more : List WaitingTicket
   pub number : ℕ
   pub known : ReaderState Version
 

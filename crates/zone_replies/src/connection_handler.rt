@@ -1,28 +1,26 @@
 //! The handler of the requests of connections, on top of a server.
-ghost use Rattle.std.specs.Prelude.{◌≡◌, ◌≢◌, ◌≤◌, ◌⊎◌, ℕ, true, false, [], ◌∷◌, None, length, take, IfSome, IfOk, IfErr, OnErr, MatchOption};
+ghost use Rattle.std.specs.Prelude.{◌≡◌, ◌≢◌, ◌≤◌, ◌⊎◌, ℕ, true, false, List, [], ◌∷◌, None, length, take, IfSome, IfOk, IfErr, OnErr, MatchOption};
 ghost use Rattle.dns_message.specs.Message.{message_limit};
 ghost use Rattle.zone_tree.specs.Version.{Version};
-ghost use Rattle.serve_core.specs.Transfers.{is_permitted, messages_to};
-ghost use Rattle.zone_tree.specs.Zone.{soa_of};
-ghost use Rattle.dns_engine.specs.Chain.{changes_by};
 ghost use Rattle.tcp_connections.specs.Asked.{EachGrows};
 ghost use Rattle.tcp_connections.specs.Kept.{messages_of};
 ghost use Rattle.tcp_connections.specs.declared.handler.Reply.{Reply as ReplyOf};
 ghost use Rattle.requests.specs.declared.stream_end.StreamEnd.{StreamEnd as EndOf};
 ghost use Rattle.zone_server.specs.Replied.{IsReplied, IsUpdate, HasNoAnswer};
-ghost use Rattle.zone_server.specs.Answer.{IsStarted};
-ghost use Rattle.dns_engine.specs.Held.{IsLatest};
 ghost use Rattle.zone_replies.specs.Going.{transfer_left};
 ghost use Rattle.requests.specs.Served.{Grows};
-ghost use Rattle.zone_server.specs.Known.{learned_by, HasTooFew};
-ghost use Rattle.zone_replies.specs.PendingUpdates.{known_at, place_in, IsLater, IsWritten};
+ghost use Rattle.zone_server.specs.Known.{learned_by};
+ghost use Rattle.zone_server.specs.declared.open_ticket.WaitingTicket.{WaitingTicket as WaitingTicketOf};
+ghost use Rattle.serve_core.specs.Transport.{room_of};
+ghost use Rattle.zone_replies.specs.PendingUpdates.{known_at, place_in, with_more, IsLater, IsMadeBy, IsWritten};
 
 use crate::pending_updates::{PendingUpdate, PendingUpdates, Place, outcome_at};
 use crate::transfer::Transfer;
-use dns_engine::{FirstZone, SharedVersion, VersionChain, VersionOwner, VersionReader};
+use crate::transfer_reply::begin_transfer;
+use dns_engine::{FirstZone, VersionReader};
 use dns_message::{Query, is_update};
 use requests::{Allowed, StreamEnd};
-use serve_core::{Peer, Transport};
+use serve_core::Peer;
 use std::alloc::Global;
 use std::marker::Model;
 use std::mem;
@@ -33,13 +31,12 @@ use tcp_connections::{Handler, Reply};
 use wire_names::NameWriter;
 use zone_server::{
     Answer, Poll, Server, ServerName, ServiceLog, Submitted, UpdateResult, UpdateSender,
-    answer_request, serve_update, start_transfer, submit_stream, tell_refused, tell_served,
-    tell_signed, tell_update, write_done, write_transfer,
+    answer_request, serve_update, submit_stream, tell_refused, tell_served, tell_signed,
+    tell_update, write_done,
 };
 
 /// Answers the peers of connections from a server, with a worker's reader, and logs updates. Contracts see which versions the reader has seen
-/// published.
-#[derive(Drop)]
+/// published. It can't be dropped, since updates may be pending: it ends by [`ConnectionHandler::into_reader`].
 pub struct ConnectionHandler<'a, 's, Z: FirstZone, N: ServerName, L> {
     server: &'a Server<'s, Z, N>,
     reader: VersionReader<N>,
@@ -70,53 +67,48 @@ impl<'a, 's, Z: FirstZone, N: ServerName, L> Model for ConnectionHandler<'a, 's,
     ghost invariant = { λ a. AreTakenUp a.taken a.reader };
 }
 
-/// The reply to a query for a transfer that is permitted in a version. The chain has the versions since the client's. Over a stream the reply is a
-/// [`Transfer`], which makes the messages. Over UDP it is one message.
-fn reply_transfer(
-    version: SharedVersion,
-    chain: VersionChain,
-    query: Query,
-    peer: Peer,
-    out: &mut [u8],
-) -> Reply<Transfer>
-    requires permitted { is_permitted version.zone peer query ≡ true }
-    requires room { message_limit ≤ length out.old }
-    ensures made { result ≢ ReplyOf.Later }
-    ensures bound { (len : ℕ) → result ≡ ReplyOf.One len → (len ≤ message_limit) × (len ≤ length out.new) }
-    ensures messages { messages_of transfer_left result out.new ≡ messages_to version.zone (changes_by (soa_of version.zone) chain) peer query }
+/// The sender, where there is room for an update that waits.
+fn sender_with<'a>(has_room: bool, sender: UpdateSender<'a>) -> Option<UpdateSender<'a>>
+    ensures { has_room ≡ false → result ≡ None }
 {
-    match peer.transport {
-        Transport::Tcp => Reply::Many(Transfer::new(version, chain, query)),
-        Transport::Udp => match write_transfer(version.get(), &chain, &query, peer, out) {
-            Some(len) => Reply::One(len),
-            None => Reply::Silent,
-        },
-    }
+    if has_room { Some(sender) } else { None }
 }
 
-/// Starts the transfer that a query asks for in the version that it was permitted in: the reply to it. `Spent` where the reader lacks a grant for one of
-/// the versions since the client's.
-fn begin_transfer<R: Wait, Z: FirstZone, N: ServerName>(
+/// Submits an update of a peer that may update, while others are pending on its connection: gives these back, with its ticket after theirs if it is pending now, too, and whether it is. If it isn't
+/// queued, it is submitted again in its turn.
+fn submit_after<R: Wait, Z: FirstZone, N: ServerName>(
     rt: &R,
+    alloc: Global,
     server: &Server<'_, Z, N>,
     reader: &mut VersionReader<N>,
-    strong: VersionOwner<'_, Z, N>,
-    query: Query,
+    sender: UpdateSender<'_>,
+    key: usize,
     peer: Peer,
+    pending: PendingUpdate<N>,
+    request: &[u8],
     out: &mut [u8],
-) -> Result<Reply<Transfer>, StreamEnd>
-    requires latest { IsLatest Z.zone reader.old.seen strong.value × (strong.value.number ≡ strong.number) }
-    requires permitted { is_permitted strong.value.zone peer query ≡ true }
-    requires room { message_limit ≤ length out.old }
-    ensures made { IfOk result (λ reply. reply ≢ ReplyOf.Later) }
-    ensures bound { IfOk result (λ reply. (len : ℕ) → reply ≡ ReplyOf.One len → (len ≤ message_limit) × (len ≤ length out.new)) }
-    ensures started { IfOk result (λ reply. IsStarted Z.zone peer query strong.entry.value reader.old reader.new (messages_of transfer_left reply out.new)) }
-    ensures end { IfErr result (λ end. end ≡ EndOf.Spent) }
-    ensures spent { OnErr result (HasTooFew Z.zone query strong.entry.value reader.old reader.new) }
+) -> (PendingUpdate<N>, bool)
+    requires update { IsUpdate request.now }
+    requires may { peer.may_update ≡ true }
+    requires room { room_of peer.transport ≤ length out.old }
+    ensures pending { (more : List WaitingTicketOf) × (result.0 ≡ with_more pending more) }
+    ensures grows { Grows {T = Version} (learned_by reader.new) (learned_by reader.old) }
 {
-    match start_transfer(rt, server, reader, strong, &query) {
-        Ok((version, chain)) => Ok(reply_transfer(version, chain, query, peer, out)),
-        Err(_) => Err(StreamEnd::Spent),
+    let mut all = pending;
+    let Ok(()) = all.more.try_reserve(1) else {
+        return (all, false);
+    };
+    let sender = Some(sender);
+    match submit_stream(rt, alloc, server, reader, sender, key, peer, request, out) {
+        Submitted::Replied(_, _) => (all, false),
+        Submitted::Waits {
+            ticket,
+            number: _,
+            put: _,
+        } => {
+            all.more.push_reserved(ticket);
+            (all, true)
+        }
     }
 }
 
@@ -176,11 +168,26 @@ impl<'a, 's, Z: FirstZone, N: ServerName, L: ServiceLog> ConnectionHandler<'a, '
         handler
     }
 
-    /// Gives back its reader.
-    pub fn into_reader(self) -> VersionReader<N>
+    /// Gives back its reader. The results of updates that are still pending are dropped when they come.
+    pub fn into_reader<R: Wait>(self, rt: &R) -> VersionReader<N>
         ensures { result ≡ self.entry.reader }
     {
-        self.reader
+        let ConnectionHandler {
+            server,
+            reader,
+            log: _,
+            alloc: _,
+            peer: _,
+            from: _,
+            asker: _,
+            query: _,
+            names: _,
+            allowed: _,
+            sender: _,
+            taken,
+        } = self;
+        taken.leave_all(rt, server);
+        reader
     }
 
     /// The sender for a request: some exactly where the handler submits updates and the request is an update of a peer that may update.
@@ -196,7 +203,19 @@ impl<'a, 's, Z: FirstZone, N: ServerName, L: ServiceLog> ConnectionHandler<'a, '
         None
     }
 
-    /// Abandons the pending update under the current connection's key where the request isn't one to submit, or where another connection has that key
+    /// Abandons the pending updates under the current connection's key.
+    fn abandon<R: Wait>(&mut self, rt: &R)
+        ensures peer { self.new.peer ≡ self.old.peer }
+        ensures asker { self.new.asker ≡ self.old.asker }
+        ensures reader { self.new.reader ≡ self.old.reader }
+        ensures submits { self.new.submits ≡ self.old.submits }
+        ensures none { place_in self.new.taken self.old.asker ≡ None }
+        ensures grows { EachGrows {T = Version} (known_at self.new.taken self.new.reader) (known_at self.old.taken self.old.reader) }
+    {
+        self.taken.leave(rt, self.server, self.asker);
+    }
+
+    /// Abandons the pending updates under the current connection's key where the request isn't one to submit, or where another connection has that key
     /// now: its address differs.
     fn settle<R: Wait>(&mut self, rt: &R, request: &[u8])
         ensures peer { self.new.peer ≡ self.old.peer }
@@ -213,8 +232,7 @@ impl<'a, 's, Z: FirstZone, N: ServerName, L: ServiceLog> ConnectionHandler<'a, '
         if has_sender && place.from == self.from {
             return;
         }
-        self.server.leave(rt, place.ticket);
-        self.taken.remove(self.asker);
+        self.abandon(rt);
     }
 
     /// Writes the reply to a pending update at the front of `out`, with the code of [`outcome_at`], and logs it. Gives its length in octets.
@@ -251,16 +269,13 @@ impl<'a, 's, Z: FirstZone, N: ServerName, L: ServiceLog> ConnectionHandler<'a, '
         ensures submits { self.new.submits ≡ self.old.submits }
         ensures grows { EachGrows {T = Version} (known_at self.new.taken self.new.reader) (known_at self.old.taken self.old.reader) }
         ensures bound { (len : ℕ) → result ≡ ReplyOf.One len → (len ≤ message_limit) × (len ≤ length out.new) }
-        ensures replied { result ≢ ReplyOf.Later → IsReplied Z.zone self.old.peer (known_at self.old.taken self.old.reader self.old.asker) (known_at self.new.taken self.new.reader self.old.asker) request.now (messages_of transfer_left result out.new) }
+        ensures replied { result ≢ ReplyOf.Later → IsMadeBy Z.zone self.old.peer (known_at self.old.taken self.old.reader self.old.asker) (known_at self.new.taken self.new.reader self.old.asker) request.now (messages_of transfer_left result out.new) }
     {
         let (key, peer) = (self.asker, self.peer);
         tell_signed(rt, self.log, self.from, request);
         let known = Snapshot::of(&self.reader);
-        let sender = if self.taken.make_room(key) {
-            Some(sender)
-        } else {
-            None
-        };
+        let has_room = self.taken.make_room(key);
+        let sender = sender_with(has_room, sender);
         match submit_stream(
             rt,
             self.alloc,
@@ -287,6 +302,7 @@ impl<'a, 's, Z: FirstZone, N: ServerName, L: ServiceLog> ConnectionHandler<'a, '
                     PendingUpdate {
                         from,
                         ticket,
+                        more: Vec::new(self.alloc),
                         number,
                         known,
                     },
@@ -296,8 +312,8 @@ impl<'a, 's, Z: FirstZone, N: ServerName, L: ServiceLog> ConnectionHandler<'a, '
         }
     }
 
-    /// The reply to the pending update under the current connection's key: written at the front of `out`, or `Later` while the update is still
-    /// pending. None where no update is pending, or its ticket has no result for this request. Then none is pending.
+    /// The reply to the first pending update under the current connection's key: written at the front of `out`, or `Later` while the update is still
+    /// pending. None where no update is pending, or its ticket has no result for this request. Then none is pending: those after it are abandoned.
     fn reply_taken<R: Wait>(
         &mut self,
         rt: &R,
@@ -312,23 +328,28 @@ impl<'a, 's, Z: FirstZone, N: ServerName, L: ServiceLog> ConnectionHandler<'a, '
         ensures grows { EachGrows {T = Version} (known_at self.new.taken self.new.reader) (known_at self.old.taken self.old.reader) }
         ensures none { result ≡ None → place_in self.new.taken self.old.asker ≡ None }
         ensures bound { IfSome result (λ reply. (len : ℕ) → reply ≡ ReplyOf.One len → (len ≤ message_limit) × (len ≤ length out.new)) }
-        ensures replied { IfSome result (λ reply. reply ≢ ReplyOf.Later → IsReplied Z.zone self.old.peer (known_at self.old.taken self.old.reader self.old.asker) (known_at self.new.taken self.new.reader self.old.asker) request.now (messages_of transfer_left reply out.new)) }
+        ensures replied { IfSome result (λ reply. reply ≢ ReplyOf.Later → IsMadeBy Z.zone self.old.peer (known_at self.old.taken self.old.reader self.old.asker) (known_at self.new.taken self.new.reader self.old.asker) request.now (messages_of transfer_left reply out.new)) }
     {
         let Some(place) = self.taken.at(self.asker) else {
             return None;
         };
-        let (_, fetched) = self.server.fetch(rt, &mut self.reader, place.ticket);
-        if let Poll::Pending = fetched {
-            return Some(Reply::Later);
+        match self
+            .taken
+            .fetch(rt, self.server, &mut self.reader, self.asker)
+        {
+            Poll::Pending => Some(Reply::Later),
+            Poll::Ready(done) => {
+                if done.asked.may() && done.asked.messages().is_one(request) {
+                    return Some(Reply::One(self.reply_done(rt, place, done, out)));
+                }
+                self.abandon(rt);
+                None
+            }
+            Poll::Unknown => {
+                self.abandon(rt);
+                None
+            }
         }
-        self.taken.remove(self.asker);
-        let Poll::Ready(done) = fetched else {
-            return None;
-        };
-        if done.asked.may() && done.asked.messages().is_one(request) {
-            return Some(Reply::One(self.reply_done(rt, place, done, out)));
-        }
-        None
     }
 
     /// Writes the reply of the engine to an update at the front of `out`, and logs it. Gives its length in octets.
@@ -367,8 +388,8 @@ impl<'a, 's, Z: FirstZone, N: ServerName, L: ServiceLog> ConnectionHandler<'a, '
         len
     }
 
-    /// The reply to an update: of the engine, where it isn't one to submit; otherwise once it is ready, and the update is submitted where none is
-    /// pending. `Later` while it is pending, and so only for an update of a peer that may update.
+    /// The reply to an update: of the engine, where it isn't one to submit; otherwise once it is ready. The update is submitted where it isn't pending;
+    /// those that are were another connection's. `Later` while it is pending, and so only for an update of a peer that may update.
     fn reply_update<R: Wait>(&mut self, rt: &R, request: &[u8], out: &mut [u8]) -> Reply<Transfer>
         requires update { IsUpdate request.now }
         requires other { (self.old.submits ≡ false) ⊎ (IsLater self.old.peer request.now → ⊥) → place_in self.old.taken self.old.asker ≡ None }
@@ -378,7 +399,7 @@ impl<'a, 's, Z: FirstZone, N: ServerName, L: ServiceLog> ConnectionHandler<'a, '
         ensures submits { self.new.submits ≡ self.old.submits }
         ensures grows { EachGrows {T = Version} (known_at self.new.taken self.new.reader) (known_at self.old.taken self.old.reader) }
         ensures bound { (len : ℕ) → result ≡ ReplyOf.One len → (len ≤ message_limit) × (len ≤ length out.new) }
-        ensures replied { result ≢ ReplyOf.Later → IsReplied Z.zone self.old.peer (known_at self.old.taken self.old.reader self.old.asker) (known_at self.new.taken self.new.reader self.old.asker) request.now (messages_of transfer_left result out.new) }
+        ensures replied { result ≢ ReplyOf.Later → IsMadeBy Z.zone self.old.peer (known_at self.old.taken self.old.reader self.old.asker) (known_at self.new.taken self.new.reader self.old.asker) request.now (messages_of transfer_left result out.new) }
         ensures later { result ≡ ReplyOf.Later → IsLater self.old.peer request.now }
         ensures submitted { result ≡ ReplyOf.Later → self.old.submits ≡ true }
     {
@@ -390,18 +411,53 @@ impl<'a, 's, Z: FirstZone, N: ServerName, L: ServiceLog> ConnectionHandler<'a, '
             None => self.take_up(rt, sender, request, out),
         }
     }
+
+    /// Submits an update of a peer that may update, while others are pending on its connection. Whether it is pending now, too; if it wasn't queued, it
+    /// is submitted again in its turn.
+    fn submit_more<R: Wait>(
+        &mut self,
+        rt: &R,
+        sender: UpdateSender<'a>,
+        request: &[u8],
+        out: &mut [u8],
+    ) -> bool
+        requires later { IsLater self.old.peer request.now }
+        requires room { message_limit ≤ length out.old }
+        ensures peer { self.new.peer ≡ self.old.peer }
+        ensures asker { self.new.asker ≡ self.old.asker }
+        ensures grows { EachGrows {T = Version} (known_at self.new.taken self.new.reader) (known_at self.old.taken self.old.reader) }
+    {
+        let (key, peer) = (self.asker, self.peer);
+        let Some(pending) = self.taken.take(key) else {
+            return false;
+        };
+        let (pending, is_pending) = submit_after(
+            rt,
+            self.alloc,
+            self.server,
+            &mut self.reader,
+            sender,
+            key,
+            peer,
+            pending,
+            request,
+            out,
+        );
+        self.taken.put(key, pending);
+        is_pending
+    }
 }
 
 impl<'a, 's, Z: FirstZone, N: ServerName, L: ServiceLog> Handler<Transfer>
     for ConnectionHandler<'a, 's, Z, N, L> {
-    // While an update is pending, what is known on its connection is what was known when it was submitted.
+    // While updates are pending, what was known on their connection when the first of them was submitted is kept.
     ghost seen = { λ replies. known_at replies.taken replies.reader };
 
     ghost peer = { λ replies. replies.peer };
 
     ghost asker = { λ replies. replies.asker };
 
-    ghost is_reply = { λ peer known later request messages. IsReplied Z.zone peer known later request messages };
+    ghost is_reply = { λ peer known later request messages. IsMadeBy Z.zone peer known later request messages };
 
     ghost is_later = { IsLater };
 
@@ -430,7 +486,7 @@ impl<'a, 's, Z: FirstZone, N: ServerName, L: ServiceLog> Handler<Transfer>
         ensures submits { self.new.submits ≡ self.old.submits }
         ensures grows { EachGrows {T = Version} (known_at self.new.taken self.new.reader) (known_at self.old.taken self.old.reader) }
         ensures bound { IfOk result (λ reply. (len : ℕ) → reply ≡ ReplyOf.One len → (len ≤ message_limit) × (len ≤ length out.new)) }
-        ensures reply { IfOk result (λ reply. reply ≢ ReplyOf.Later → IsReplied Z.zone self.old.peer (known_at self.old.taken self.old.reader self.old.asker) (known_at self.new.taken self.new.reader self.old.asker) request.now (messages_of transfer_left reply out.new)) }
+        ensures reply { IfOk result (λ reply. reply ≢ ReplyOf.Later → IsMadeBy Z.zone self.old.peer (known_at self.old.taken self.old.reader self.old.asker) (known_at self.new.taken self.new.reader self.old.asker) request.now (messages_of transfer_left reply out.new)) }
         ensures later { IfOk result (λ reply. reply ≡ ReplyOf.Later → IsLater self.old.peer request.now) }
         // Without a queue for updates each request gets its reply now.
         ensures submitted { IfOk result (λ reply. reply ≡ ReplyOf.Later → self.old.submits ≡ true) }
@@ -466,5 +522,26 @@ impl<'a, 's, Z: FirstZone, N: ServerName, L: ServiceLog> Handler<Transfer>
             }
             Answer::Spent => Err(StreamEnd::Spent),
         }
+    }
+
+    #[tactic(auto, using(tcp_connections::proofs::AskedLemmas::each_itself))]
+    fn prepare<R: Wait>(&mut self, rt: &R, between: usize, request: &[u8], out: &mut [u8]) -> bool {
+        let Some(more) = self.taken.more(self.asker) else {
+            return false;
+        };
+        if between < more {
+            return true;
+        }
+        if between > more {
+            return false;
+        }
+        let Some(sender) = self.sender_for(request) else {
+            return false;
+        };
+        let is_pending = self.submit_more(rt, sender, request, out);
+        if is_pending {
+            tell_signed(rt, self.log, self.from, request);
+        }
+        is_pending
     }
 }

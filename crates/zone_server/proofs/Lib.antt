@@ -18,5 +18,6 @@ pub mod ServeOneLemmas
 pub mod ServerSendLemmas
 pub mod StartedLemmas
 pub mod StateLemmas
+pub mod TicketLemmas
 pub mod TransferLemmas
 pub mod WantedLemmas

@@ -10,5 +10,6 @@ pub mod Replied
 pub mod Right
 pub mod ServeOne
 pub mod Signed
+pub mod Tickets
 pub mod UpdateResult
 pub mod Updated

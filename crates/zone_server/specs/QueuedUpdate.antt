@@ -57,6 +57,11 @@ abbrev pub IsSubmitted : List Record → Peer → List ℕ → ReaderState Versi
 IsSubmitted first peer request before after out (AtOnce len outcome) = IsRepliedAtOnce first peer request before after out len outcome
 IsSubmitted first peer request before after out (IsPut ticket number put) = MeetsAt first before after number
 
+-- there is a reply now
+abbrev pub HasReply : Submitted → Type 0
+HasReply (AtOnce len outcome) = Unit {0}
+HasReply (IsPut ticket number put) = ⊥
+
 -- the same for an update that came by datagram: there is no reply now if it is queued
 abbrev pub IsDatagramSubmitted : List Record → Peer → List ℕ → ReaderState Version → ReaderState Version → List ℕ → DatagramSubmitted → Type 0
 IsDatagramSubmitted first peer request before after out (AtOnceByDatagram len outcome) = IsRepliedAtOnce first peer request before after out len outcome

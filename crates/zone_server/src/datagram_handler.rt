@@ -15,6 +15,7 @@ ghost use Rattle.requests.specs.Served.{Grows};
 use crate::answer::serve_update;
 use crate::local_updates::LocalUpdates;
 use crate::notifying::{NextTurn, Notifying};
+use crate::open_ticket::{Fetched, WaitingTicket};
 use crate::request_answer::{Answer, answer_request};
 use crate::right::ServerName;
 use crate::server::Server;
@@ -23,7 +24,6 @@ use crate::signs_later::SignsLater;
 use crate::submit::{DatagramSubmitted, UpdateSender, submit_datagram, submit_own};
 use crate::telling::{tell_refused, tell_served, tell_signed, tell_update};
 use crate::transfer::answer_transfer;
-use crate::update_result::Poll;
 use dns_engine::{FirstZone, SharedVersion, VersionReader};
 use dns_message::{Head, Query};
 use dns_rdata::Rcode;
@@ -341,18 +341,18 @@ impl<'a, 's, Z: FirstZone, N: ServerName, L: ServiceLog> LocalUpdates
         rt: &R,
         request: UpdateRequest,
         is_held: bool,
-    ) -> Option<usize> {
+    ) -> Option<WaitingTicket> {
         let sender = self.sender?;
         submit_own(rt, self.server, &mut self.reader, sender, request, is_held)
     }
 
-    fn result_at<R: Wait>(&mut self, rt: &R, ticket: usize) -> Poll {
+    fn result_at<R: Wait>(&mut self, rt: &R, ticket: WaitingTicket) -> Fetched {
         let (_, fetched) = self.server.fetch(rt, &mut self.reader, ticket);
         fetched
     }
 
     #[tactic(auto, using(requests::proofs::TurnLemmas::grows_itself))]
-    fn leave<R: Wait>(&mut self, rt: &R, ticket: usize) {
+    fn leave<R: Wait>(&mut self, rt: &R, ticket: WaitingTicket) {
         self.server.leave(rt, ticket);
     }
 }

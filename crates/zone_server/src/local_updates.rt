@@ -3,7 +3,7 @@ ghost use Rattle.std.specs.Prelude.{◌≡◌, true, IfOk};
 ghost use Rattle.update_batches.specs.Engine.{IsLast};
 ghost use Rattle.requests.specs.Served.{Grows};
 
-use crate::update_result::Poll;
+use crate::open_ticket::{Fetched, WaitingTicket};
 use dns_engine::SharedVersion;
 use requests::Handler;
 use snapshot_cell::Spent;
@@ -33,15 +33,15 @@ pub trait LocalUpdates: Handler {
         rt: &R,
         request: UpdateRequest,
         is_held: bool,
-    ) -> Option<usize>
+    ) -> Option<WaitingTicket>
         requires may { request.may ≡ true }
         ensures grows { Grows (Self.seen self.new) (Self.seen self.old) };
 
-    /// The result at a ticket, if it is there yet.
-    fn result_at<R: Wait>(&mut self, rt: &R, ticket: usize) -> Poll
+    /// The result at a ticket, if it is there yet. If it is not, the ticket comes back.
+    fn result_at<R: Wait>(&mut self, rt: &R, ticket: WaitingTicket) -> Fetched
         ensures grows { Grows (Self.seen self.new) (Self.seen self.old) };
 
     /// Abandons a ticket: a result that is still to come is dropped.
-    fn leave<R: Wait>(&mut self, rt: &R, ticket: usize)
+    fn leave<R: Wait>(&mut self, rt: &R, ticket: WaitingTicket)
         ensures grows { Grows (Self.seen self.new) (Self.seen self.old) };
 }

@@ -1,6 +1,8 @@
-//! Tickets of updates that are not queued yet (own).
+//! Tickets that have an owner: of updates that are not queued yet, and of those that wait (own).
 ghost use Rattle.std.specs.Prelude.{◌≡◌};
+ghost use Rattle.zone_server.specs.Tickets.{fetched_by};
 
+use crate::update_result::{Poll, UpdateResult};
 use update_batches::Put;
 
 /// A ticket that was opened for an update, which is not queued yet. It cannot be dropped: either the update waits ([`OpenTicket::waits`]), or the ticket is closed
@@ -24,12 +26,12 @@ impl OpenTicket {
         self.ticket
     }
 
-    /// Its number, once the update waits in the queue, of which this is the receipt.
-    pub fn waits(self, _put: &Put) -> usize
-        ensures { result ≡ self.ticket }
+    /// The ticket of the update once it waits in the queue, of which this is the receipt.
+    pub fn waits(self, _put: &Put) -> WaitingTicket
+        ensures { result.ticket ≡ self.ticket }
     {
         let OpenTicket { ticket } = self;
-        ticket
+        WaitingTicket { ticket }
     }
 
     /// Its number, for the state that closes it.
@@ -38,5 +40,50 @@ impl OpenTicket {
     {
         let OpenTicket { ticket } = self;
         ticket
+    }
+}
+
+/// The ticket of an update that waits in the queue. It cannot be dropped nor copied: its result is fetched ([`Server::fetch`](crate::Server::fetch)), or it is abandoned
+/// ([`Server::leave`](crate::Server::leave)).
+pub struct WaitingTicket {
+    ticket: usize,
+}
+
+/// What a waiting ticket gives when its result is fetched.
+pub enum Fetched {
+    /// No reply is pending at it.
+    Unknown,
+    /// The result is not there yet: the ticket waits on.
+    Pending(WaitingTicket),
+    /// The result.
+    Ready(UpdateResult),
+}
+
+impl WaitingTicket {
+    /// Its number, for the state that keeps its result.
+    pub(crate) fn number(&self) -> usize
+        ensures { result ≡ self.now.ticket }
+    {
+        self.ticket
+    }
+
+    /// Its number, for the state that abandons it.
+    pub(crate) fn into_left(self) -> usize
+        ensures { result ≡ self.ticket }
+    {
+        let WaitingTicket { ticket } = self;
+        ticket
+    }
+
+    /// What the state gave when it was polled, with the ticket if that waits on.
+    pub(crate) fn fetched(self, poll: Poll) -> Fetched
+        ensures { result ≡ fetched_by self poll }
+    {
+        let WaitingTicket { ticket } = self;
+        match poll {
+            Poll::Unknown => Fetched::Unknown,
+            Poll::Pending => Fetched::Pending(WaitingTicket { ticket }),
+            Poll::Ready(done) => Fetched::Ready(done),
+        }
     }
 }

@@ -6,7 +6,8 @@ ghost use Rattle.dns_engine.specs.Replayed.{IsReplay};
 ghost use Rattle.requests.specs.Served.{BeginsWith, Grows};
 ghost use Rattle.update_batches.specs.Batch.{versions_in};
 ghost use Rattle.zone_server.specs.Brought.{brought_for, brought_from, outgoing_for};
-ghost use Rattle.zone_server.specs.UpdateResult.{AreResults, IsFetched, IsJudgedIn};
+ghost use Rattle.zone_server.specs.UpdateResult.{AreResults, IsJudgedIn};
+ghost use Rattle.zone_server.specs.Tickets.{IsFetchedBy};
 ghost use Rattle.zone_server.specs.Right.{AreNamed};
 ghost use Rattle.zone_server.specs.Known.{learned_by, HasMet, MeetsAndAsks};
 ghost use Rattle.zone_server.specs.QueuedUpdate.{MeetsAt, IsBegun};
@@ -16,11 +17,11 @@ ghost use Rattle.dns_engine.specs.Held.{IsLatest};
 ghost use Rattle.dns_engine.specs.declared.fault.EngineFault.{EngineFault as Fault};
 ghost use Rattle.transfer_core.specs.declared.kept.TheConstants.{KEPT};
 
-use crate::open_ticket::OpenTicket;
+use crate::open_ticket::{Fetched, OpenTicket, WaitingTicket};
 use crate::outgoing::Outgoing;
 use crate::right::{PublishRight, ServerLedgers, ServerName};
 use crate::server_state::{BatchStart, ServerState};
-use crate::update_result::{Poll, QueuedResult};
+use crate::update_result::QueuedResult;
 use dns_engine::{
     Engine, FirstZone, NoEngine, SharedChain, SharedVersion, VersionCell, VersionPublisher,
     VersionReader,
@@ -182,26 +183,27 @@ impl<'a, Z: FirstZone, N: ServerName> Server<'a, Z, N> {
         (number, opened(state.open()))
     }
 
-    /// Fetches the result at a ticket, if it is there yet, under the lock, and the reader meets everything published. The ticket is then free. It gives the number of the
-    /// version published last with it.
+    /// Fetches the result at a ticket, if it is there yet, under the lock, and the reader meets everything published. If it is not, the ticket comes back. It gives the number
+    /// of the version published last with it.
     pub fn fetch<R: Wait>(
         &self,
         rt: &R,
         reader: &mut VersionReader<N>,
-        ticket: usize,
-    ) -> (u64, Poll)
+        ticket: WaitingTicket,
+    ) -> (u64, Fetched)
         ensures met { MeetsAt Z.zone reader.old reader.new result.0 }
-        ensures fetched { IsFetched Z.zone reader.new.seen result.1 }
+        ensures fetched { IsFetchedBy Z.zone reader.new.seen ticket result.1 }
     {
         let mut state = self.state.lock(rt);
         meet_last(&mut state, reader);
         let number = state.number();
-        (number, state.fetch(ticket))
+        let poll = state.fetch(ticket.number());
+        (number, ticket.fetched(poll))
     }
 
     /// Abandons a ticket: a result that is still to come is dropped.
-    pub fn leave<R: Wait>(&self, rt: &R, ticket: usize) {
-        self.state.lock(rt).leave(ticket);
+    pub fn leave<R: Wait>(&self, rt: &R, ticket: WaitingTicket) {
+        self.state.lock(rt).leave(ticket.into_left());
     }
 
     /// Frees a ticket whose update is not queued, and so gets no result.

@@ -6,10 +6,11 @@ ghost use Rattle.serve_core.specs.Heading.{heading_of_update, coded};
 ghost use Rattle.dns_message.specs.Request.{reads};
 ghost use Rattle.dns_message.specs.declared.query.Parsed.TheVariants.{Update as SaysUpdate};
 ghost use Rattle.serve_core.specs.Transport.{room_of, limit_of};
-ghost use Rattle.zone_server.specs.QueuedUpdate.{memory_of, IsSubmitted, IsDatagramSubmitted, MeetsAt};
+ghost use Rattle.zone_server.specs.QueuedUpdate.{memory_of, HasReply, IsSubmitted, IsDatagramSubmitted, MeetsAt};
 ghost use Rattle.zone_server.specs.Replied.{IsUpdate};
 
 use crate::answer::{UpdateOutcome, read_update};
+use crate::open_ticket::WaitingTicket;
 use crate::right::ServerName;
 use crate::server::Server;
 use dns_engine::{FirstZone, VersionReader};
@@ -33,14 +34,13 @@ pub struct UpdateSender<'a> {
 }
 
 /// The result of submitting an update of a connection.
-#[derive(Drop)]
 pub enum Submitted {
     /// It has a reply at once, of so many bytes and with this outcome.
     Replied(usize, UpdateOutcome),
     /// It waits in the queue, and its result will be at this ticket. This is the number of the version published last.
     Waits {
         /// The ticket.
-        ticket: usize,
+        ticket: WaitingTicket,
         /// The number.
         number: u64,
         /// The queue's receipt.
@@ -134,7 +134,8 @@ pub fn submit_stream<R: Wait, Z: FirstZone, N: ServerName>(
     requires update { IsUpdate request.now }
     requires may { peer.may_update ≡ true }
     requires room { room_of peer.transport ≤ length out.old }
-    ensures { IsSubmitted Z.zone peer request.now reader.old reader.new out.new result }
+    ensures submitted { IsSubmitted Z.zone peer request.now reader.old reader.new out.new result }
+    ensures unsent { sender.entry ≡ None → HasReply result }
 {
     let update = match read_update(alloc, request) {
         Ok(update) => update,
@@ -183,7 +184,7 @@ pub(crate) fn submit_own<R: Wait, Z: FirstZone, N: ServerName>(
     sender: UpdateSender<'_>,
     request: UpdateRequest,
     is_held: bool,
-) -> Option<usize>
+) -> Option<WaitingTicket>
     requires may { request.may ≡ true }
     ensures met { (number : ℕ) × MeetsAt Z.zone reader.old reader.new number }
 {

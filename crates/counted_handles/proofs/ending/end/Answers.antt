@@ -16,8 +16,8 @@ into_badge-requires g c =
     let looked = c.in_default.ensures.parted due.0 (alone_seat due.0 c.args.badge.now.views seat.result.me (sym (ap (λ b. b.views) c.replace.ensures.value) ∙ seat.ensures.2) seat.ensures.3 due.1) in
     λ i. (looked.2 i).1
 
-pub returns-in_default-clause-ended : goal.returns-in_default-clause-ended
-returns-in_default-clause-ended g c p due =
+pub returns-in_default-clause-in_use : goal.returns-in_default-clause-in_use
+returns-in_default-clause-in_use g c p due =
     let seat = c.into_seat-seat in
     let looked = c.in_default.ensures.parted p (alone_seat p c.args.badge.now.views seat.result.me (sym (ap (λ b. b.views) c.replace.ensures.value) ∙ seat.ensures.2) seat.ensures.3 due) in
     (looked.0, looked.1, c.into_badge.ensures.2 ∙ ap (λ m. m.0 ∷ []) looked.2)

@@ -2,7 +2,7 @@
 use Rattle.std.proofs.Common.{◌≡◌, refl, ◌∙◌, rules}
 use Rattle.requests.specs.Allowed.{IsReplyFrom, IsLaterFrom}
 use Rattle.serve_core.specs.declared.transport.Transport.TheVariants.{Tcp}
-use Rattle.requests.proofs.TurnLemmas.{grows_itself}
+use Rattle.tcp_connections.proofs.TurnLemmas.{extends_itself}
 use Rattle.slab.specs.Slab.{get, with_value, slab_len}
 use Rattle.slab.proofs.SlabLemmas.{Updates-with_value}
 use Rattle.tcp_connections.specs.Connections.{seen_of}
@@ -32,7 +32,7 @@ returns-in-Err-clause-own g c =
       end = c.in-Err.end;
       known = g.A.Handler.seen c.serve_connection.new.handler c.args.key;
       octets = g.S.Blocking.octets c.serve_connection.new.connection.stream;
-      grown = grows_itself _;
+      grown = extends_itself _;
       stops = c.in-Err.ensures.stops;
       written = c.in-Err.ensures.written;
     })

@@ -5,7 +5,8 @@ use Rattle.std.proofs.lemmas.List.{take_all}
 use Rattle.std.proofs.lemmas.List.Elements.{All-nil, Contains-push}
 use Rattle.requests.specs.Allowed.{IsReplyFrom, IsLaterFrom}
 use Rattle.serve_core.specs.declared.transport.Transport.TheVariants.{Tcp}
-use Rattle.requests.proofs.TurnLemmas.{begins_itself, begins_more, grows_itself}
+use Rattle.requests.proofs.TurnLemmas.{begins_itself, begins_more}
+use Rattle.tcp_connections.proofs.TurnLemmas.{extends_itself}
 use Rattle.tcp_connections.proofs.AskedLemmas.{each_itself, each_more}
 use Rattle.slab.specs.Slab.{get, slab_len}
 use Rattle.tcp_connections.specs.Connections.{HasStopped, seen_of}
@@ -17,7 +18,7 @@ use Rattle.tcp_connections.proofs.serve_each.serve_ready.Goals.{then-serve_key+i
 
 pub returns-in_err-reserve-clause-own : goal.returns-in_err-reserve-clause-own
 returns-in_err-reserve-clause-own g c = λ key.
-    own_same (IsReplyFrom g.A.Handler.is_reply c.args.allowed.rules.now Tcp) c.args.now (g.A.Handler.seen c.args.handler.now key) (g.A.Handler.seen c.args.handler.now key) (option_map (seen_of g.S.Blocking.octets) (get c.args.connections.now key)) (grows_itself _)
+    own_same (IsReplyFrom g.A.Handler.is_reply c.args.allowed.rules.now Tcp) c.args.now (g.A.Handler.seen c.args.handler.now key) (g.A.Handler.seen c.args.handler.now key) (option_map (seen_of g.S.Blocking.octets) (get c.args.connections.now key)) (extends_itself _)
 
 pub returns-in_err-reserve-clause-ended : goal.returns-in_err-reserve-clause-ended
 returns-in_err-reserve-clause-ended g c = counted_none c.args.ends.now (slab_len c.args.connections.now) (slab_len c.args.connections.now) refl
@@ -25,7 +26,7 @@ returns-in_err-reserve-clause-ended g c = counted_none c.args.ends.now (slab_len
 pub loop-key-init : goal.loop-key-init
 loop-key-init g c = record {
   grows = each_itself _;
-  own = λ key. own_same (IsReplyFrom g.A.Handler.is_reply c.args.allowed.rules.now Tcp) c.args.now (g.A.Handler.seen c.args.handler.now key) (g.A.Handler.seen c.args.handler.now key) (option_map (seen_of g.S.Blocking.octets) (get c.args.connections.now key)) (grows_itself _);
+  own = λ key. own_same (IsReplyFrom g.A.Handler.is_reply c.args.allowed.rules.now Tcp) c.args.now (g.A.Handler.seen c.args.handler.now key) (g.A.Handler.seen c.args.handler.now key) (option_map (seen_of g.S.Blocking.octets) (get c.args.connections.now key)) (extends_itself _);
   ended = counted_none c.args.ends.now (slab_len c.args.connections.now) (slab_len c.args.connections.now) refl;
   next = begins_itself _;
   going = All-nil _;

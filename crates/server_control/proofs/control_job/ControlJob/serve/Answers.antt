@@ -9,5 +9,5 @@ loop-init g c = record { grows = grows_itself _; number = refl }
 pub loop-preserved : goal.loop-preserved
 loop-preserved g c = record { grows = grows_more _ _ _ c.loop.invariant.grows c.look.ensures.grows; number = c.look.ensures.number ∙ c.loop.invariant.number }
 
-pub returns-in-Some-look-clause-grows : goal.returns-in-Some-look-clause-grows
-returns-in-Some-look-clause-grows g c = grows_more _ _ _ c.loop.invariant.grows c.look.ensures.grows
+pub returns-in-Ends-clause-grows : goal.returns-in-Ends-clause-grows
+returns-in-Ends-clause-grows g c = grows_more _ _ _ c.loop.invariant.grows c.look.ensures.grows

@@ -3,7 +3,7 @@ use Rattle.std.proofs.Common.{subst}
 use Rattle.tsig.specs.declared.verifying.Verification.{Verification}
 use Rattle.signed_replies.specs.Signed.{IsLaterBy}
 use Rattle.signed_replies.specs.Stream.{AreSignedInOrder}
-use Rattle.signed_replies.proofs.ReplyLemmas.{reply_to}
+use Rattle.signed_replies.proofs.ConnectionLemmas.{reply_to}
 use Rattle.signed_replies.proofs.connections.SignedConnections.reply_at.Goals as goal
 
 pub returns-clause-reply : goal.returns-clause-reply

@@ -5,7 +5,8 @@ use Rattle.std.proofs.lemmas.Result.{IfOk-weaker}
 use Rattle.tsig.specs.declared.verifying.Verification.TheVariants.{Silent, Malformed, BadKey, BadSig, BadTime, BadTrunc, Signed}
 use Rattle.signed_replies.specs.Signed.{stamp_late, stamp_short}
 use Rattle.signed_replies.specs.Stream.{AreSignedInOrder}
-use Rattle.signed_replies.proofs.ReplyLemmas.{told_at_once, told_then, error_told}
+use Rattle.signed_replies.proofs.ConnectionLemmas.{told_at_once, told_then}
+use Rattle.signed_replies.proofs.ReplyLemmas.{error_told}
 use Rattle.signed_replies.proofs.connections.SignedConnections.reply_by.Goals as goal
 
 pub returns-in-Silent-clause-reply : goal.returns-in-Silent-clause-reply

@@ -5,7 +5,8 @@ use Rattle.tsig.specs.declared.verifying.Verification.{Verification}
 use Rattle.tsig.specs.declared.verifying.Verification.TheVariants.{Unsigned}
 use Rattle.signed_replies.specs.Signed.{IsLaterBy}
 use Rattle.signed_replies.specs.Stream.{AreSignedInOrder}
-use Rattle.signed_replies.proofs.ReplyLemmas.{unsigned_at, reply_to}
+use Rattle.signed_replies.proofs.ConnectionLemmas.{reply_to}
+use Rattle.signed_replies.proofs.ReplyLemmas.{unsigned_at}
 use Rattle.signed_replies.proofs.connections.SignedConnections.reply_message.Goals as goal
 
 pub reply_by-requires-clause-verified : goal.reply_by-requires-clause-verified

@@ -1,7 +1,7 @@
 -- The reply to the request without its TSIG, signed.
 use Rattle.std.proofs.Common.{sym, ap, ◌∙◌, refl, slice_get}
 use Rattle.std.specs.Option.{option_copied}
-use Rattle.requests.proofs.TurnLemmas.{grows_itself}
+use Rattle.tcp_connections.proofs.TurnLemmas.{extends_itself}
 use Rattle.tcp_connections.specs.Kept.{messages_of}
 use Rattle.signed_replies.specs.Signed.{reply_limit}
 use Rattle.signed_replies.specs.Stream.{AreSignedInOrder, stream_by}
@@ -14,8 +14,8 @@ returns-in_default-clause-reply g c = λ made.
     let seen = g.A.Handler.seen c.args.self.now.inner c.args.self.now.asker in
     let none = ap (λ l. slice_get l c.args.tsig.key) (sym c.keys.ensures) ∙ sym c.get.ensures ∙ ap option_copied c.in_default.is in (
       seen,
-      grows_itself seen,
-      grows_itself seen,
+      extends_itself seen,
+      extends_itself seen,
       signed_reply_none g.K.KeyRing.keys g.K.KeyRing.rights g.A.Handler.is_reply AreSignedInOrder (slice_get g.K.KeyRing.keys c.args.tsig.key) c.args.now c.args.tsig peer seen seen c.args.request.now none,
     )
 

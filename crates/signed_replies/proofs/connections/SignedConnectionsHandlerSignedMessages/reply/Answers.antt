@@ -1,7 +1,8 @@
 -- Fewer octets than a header has get no reply.
 use Rattle.std.proofs.Common.{arith}
 use Rattle.signed_replies.specs.Stream.{AreSignedInOrder}
-use Rattle.signed_replies.proofs.ReplyLemmas.{too_few, silent_to}
+use Rattle.signed_replies.proofs.ConnectionLemmas.{silent_to}
+use Rattle.signed_replies.proofs.ReplyLemmas.{too_few}
 use Rattle.signed_replies.proofs.connections.SignedConnectionsHandlerSignedMessages.reply.Goals as goal
 
 pub returns-then-request-lt-HEADER-clause-reply : goal.returns-then-request-lt-HEADER-clause-reply

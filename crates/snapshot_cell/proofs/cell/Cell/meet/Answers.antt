@@ -40,7 +40,7 @@ returns-clause-same g c =
     let reads = c.reader.invariant in
     let reported = c.meet.ensures.met inv.publishing reads.reading (inv.views_are, inv.whole, inv.none_left) (reads.views_are, reads.whole) in
     let published = ap published_in reported.views_are ∙ sym (ap published_in inv.views_are) in
-    (λ i. record { cell = c.meet.ensures.badges.0 i; published = published i; number = before.number; value = before.last.value; noted = before.noted; ready = before.ready }) ∙ c.publisher.view_is
+    (λ i. record { cell = c.meet.ensures.badges.0 i; published = published i; number = before.number; value = before.last.value; readers = before.readers; noted = before.noted; ready = before.ready }) ∙ c.publisher.view_is
 
 pub invariant_of-reader : goal.invariant_of-reader
 invariant_of-reader g c =

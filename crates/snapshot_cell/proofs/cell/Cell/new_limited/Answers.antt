@@ -26,7 +26,7 @@ returns-clause-publisher g c =
     let reported = rest.ensures.dealt d.publishing d.views_are in
     let cell = rest.ensures.badges.0 ∙ c.deal_all.ensures.badge.0 ∙ made.2 in
     let published = ap published_in reported.0 ∙ d.published in
-    λ i. record { cell = cell i; published = published i; number = 0; value = c.of-last.ensures i; noted = 0; ready = 0 }
+    λ i. record { cell = cell i; published = published i; number = 0; value = c.of-last.ensures i; readers = c.args.readers; noted = 0; ready = 0 }
 
 pub returns-clause-readers : goal.returns-clause-readers
 returns-clause-readers g c =

@@ -67,4 +67,4 @@ returns-clause-noted g c =
     let cell = call.ensures.badges.0 ∙ ap (λ s. s.cell) is in
     let published = ap published_in reported.views_are ∙ sym (ap published_in inv.views_are) ∙ ap (λ s. s.published) is in
     let few : before.noted < notes = omega (arith, inv.few, c.if-publisher-eq-NOTES.false) in
-    (λ i. record { cell = cell i; published = published i; number = (is i).number; value = (is i).value; noted = (is i).noted + 1; ready = (is i).ready }, subst (λ n. n < notes) (ap (λ s. s.noted) is) few)
+    (λ i. record { cell = cell i; published = published i; number = (is i).number; value = (is i).value; readers = (is i).readers; noted = (is i).noted + 1; ready = (is i).ready }, subst (λ n. n < notes) (ap (λ s. s.noted) is) few)

@@ -31,7 +31,7 @@ returns-clause-published g c =
     let cell = c.publish.ensures.badge.0 ∙ ap (λ s. s.cell) is in
     let published = ap published_in newer.2 ∙ ap (λ l. l ++ c.args.value ∷ []) (sym (ap published_in inv.views_are) ∙ ap (λ s. s.published) is) in
     let ready = c.saturating_sub-publisher-inside.ensures ∙ ap (λ s. s.ready - 1) is in
-    λ i. record { cell = cell i; published = published i; number = ap (λ s. s.number + 1) is i; value = c.of-last.ensures i; noted = ap (λ s. s.noted) is i; ready = ready i }
+    λ i. record { cell = cell i; published = published i; number = ap (λ s. s.number + 1) is i; value = c.of-last.ensures i; readers = ap (λ s. s.readers) is i; noted = ap (λ s. s.noted) is i; ready = ready i }
 
 pub returns-in_err-old-clause-none_ready : goal.returns-in_err-old-clause-none_ready
 returns-in_err-old-clause-none_ready g c =

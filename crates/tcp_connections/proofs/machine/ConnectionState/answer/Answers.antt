@@ -4,6 +4,7 @@ use Rattle.dns_message.specs.Frame.{frame_of}
 use Rattle.requests.specs.Allowed.{IsReplyFrom}
 use Rattle.serve_core.specs.declared.transport.Transport.TheVariants.{Tcp}
 use Rattle.tcp_connections.specs.Kept.{Kept, due}
+use Rattle.tcp_connections.proofs.AskedLemmas.{each_more}
 use Rattle.tcp_connections.proofs.FrameLemmas.{turn_made}
 use Rattle.tcp_connections.proofs.machine.ConnectionState.answer.Goals as goal
 
@@ -25,3 +26,6 @@ returns-in-Later-clause-later g c = λ later.
     let count = c.in-Some.count in
     let whole : held ≡ frame_of request ++ drop count held = subst (λ l. l ≡ frame_of request ++ drop count l) (c.as_slice.ensures ∙ ap (λ (k : Kept). k.held) c.self.view_is) c.in-Some.ensures.frame in
     (request, drop count held, whole, c.in-Ok.ensures.later c.in-Later.is)
+
+pub returns-in-Later-clause-grows : goal.returns-in-Later-clause-grows
+returns-in-Later-clause-grows g c = each_more _ _ _ c.reply_from.ensures.grows c.prepare_next.ensures.grows

@@ -1,7 +1,7 @@
 -- A turn is taken, and what is counted and told of it leaves its connections.
 use Rattle.std.proofs.Common.{ℕ, subst, ◌∙◌}
-use Rattle.requests.specs.Served.{Learned}
 use Rattle.tcp_connections.specs.Asked.{EachGrows}
+use Rattle.tcp_connections.specs.Served.{Knowledge}
 use Rattle.tcp_loop.specs.Steps.{unturned}
 use Rattle.zone_tree.specs.Version.{Version}
 use Rattle.worker_jobs.proofs.TurnedLemmas.{rested_turned}
@@ -17,7 +17,7 @@ pub returns-in-Err-clause-turned : goal.returns-in-Err-clause-turned
 returns-in-Err-clause-turned g c = rested_turned _ _ _ _ _ _ _ _ _ _ _ c.rest.ensures.same c.poll_once-taken.ensures.turned (c.tell.ensures.event_loop ∙ c.count.ensures.event_loop)
 
 pub returns-in-Ok-clause-grows : goal.returns-in-Ok-clause-grows
-returns-in-Ok-clause-grows g c = subst (λ (seen : ℕ → Learned Version). EachGrows {T = Version} (g.A.Handler.seen c.poll_once-taken.new.handler) seen) c.rest.ensures.same c.poll_once-taken.ensures.grows
+returns-in-Ok-clause-grows g c = subst (λ (seen : ℕ → Knowledge Version). EachGrows {T = Version} (g.A.Handler.seen c.poll_once-taken.new.handler) seen) c.rest.ensures.same c.poll_once-taken.ensures.grows
 
 pub returns-in-Err-clause-grows : goal.returns-in-Err-clause-grows
-returns-in-Err-clause-grows g c = subst (λ (seen : ℕ → Learned Version). EachGrows {T = Version} (g.A.Handler.seen c.poll_once-taken.new.handler) seen) c.rest.ensures.same c.poll_once-taken.ensures.grows
+returns-in-Err-clause-grows g c = subst (λ (seen : ℕ → Knowledge Version). EachGrows {T = Version} (g.A.Handler.seen c.poll_once-taken.new.handler) seen) c.rest.ensures.same c.poll_once-taken.ensures.grows

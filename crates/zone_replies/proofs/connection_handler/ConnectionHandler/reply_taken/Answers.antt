@@ -1,18 +1,18 @@
--- What is told at a ticket is the reply by what was known when the update was taken up.
+-- What is told at a ticket is the reply by what was known when the first of the updates that wait together was submitted.
 use Rattle.std.proofs.Common.{◌≡◌, ◌≤◌, ℕ, true, [], ◌∷◌, Option, None, Some, length, take, sym, ap, ◌∙◌, subst}
 use Rattle.dns_message.specs.Message.{message_limit}
 use Rattle.tcp_connections.specs.declared.handler.Reply.{Reply}
 use Rattle.tcp_connections.specs.declared.handler.Reply.TheVariants.{One}
 use Rattle.zone_replies.specs.declared.transfer.Transfer.{Transfer}
 use Rattle.zone_tree.specs.Version.{Version}
-use Rattle.requests.specs.Served.{Learned}
+use Rattle.tcp_connections.specs.Served.{waited}
 use Rattle.tcp_connections.specs.Asked.{EachGrows}
+use Rattle.tcp_connections.proofs.AskedLemmas.{each_more}
 use Rattle.zone_server.specs.UpdateResult.{IsFetched, IsDone}
 use Rattle.zone_server.specs.declared.update_result.Poll.{Poll}
-use Rattle.zone_server.specs.Replied.{IsReplied}
 use Rattle.zone_replies.specs.State.{HandlerState}
-use Rattle.zone_replies.specs.PendingUpdates.{known_at, place_in}
-use Rattle.zone_replies.proofs.PendingLemmas.{known_grows, gone_all, gone_grows, gone_none, none_known}
+use Rattle.zone_replies.specs.PendingUpdates.{known_at, place_in, IsLater, IsMadeBy}
+use Rattle.zone_replies.proofs.PendingLemmas.{left_all, left_grows}
 use Rattle.zone_replies.proofs.PendingRepliedLemmas.{meets_grows, taken_replied}
 use Rattle.zone_replies.proofs.connection_handler.ConnectionHandler.reply_taken.Goals as goal
 
@@ -22,53 +22,59 @@ apart len is = cc
 same_len : (len same : ℕ) → ◌≡◌ {A = Reply Transfer} (One len) (One same) → len ≡ same
 same_len len same is = cc
 
+pub invariant_of-self : goal.invariant_of-self
+invariant_of-self g c =
+    let grown = meets_grows g.Z.FirstZone.zone c.self.inside.reader c.fetch.new.reader c.fetch.ensures.met.0 c.fetch.ensures.met.1 in
+    left_all c.self.inside.reader c.fetch.new.reader grown c.self.inside.taken c.self.inside.asker c.fetch.result c.fetch.new.self c.fetch.ensures.rest c.self.invariant
+
 pub returns-in-Pending-clause-grows : goal.returns-in-Pending-clause-grows
 returns-in-Pending-clause-grows g c =
-    let grown = meets_grows g.Z.FirstZone.zone c.self.inside.reader c.fetch-fetched.new.reader _ c.fetch-fetched.ensures.met in
-    subst (λ (s : HandlerState). EachGrows {T = Version} (known_at c.self.inside.taken c.fetch-fetched.new.reader) (known_at s.taken s.reader)) c.self.view_is
-    (known_grows c.self.inside.taken c.self.inside.reader c.fetch-fetched.new.reader grown)
-
-pub invariant_of-self-in_default-fetched-2 : goal.invariant_of-self-in_default-fetched-2
-invariant_of-self-in_default-fetched-2 g c =
-    let grown = meets_grows g.Z.FirstZone.zone c.self.inside.reader c.fetch-fetched.new.reader _ c.fetch-fetched.ensures.met in
-    gone_all c.self.inside.taken c.self.inside.reader c.fetch-fetched.new.reader c.self.inside.asker grown c.remove.new.self c.remove.ensures c.self.invariant
+    let grown = meets_grows g.Z.FirstZone.zone c.self.inside.reader c.fetch.new.reader c.fetch.ensures.met.0 c.fetch.ensures.met.1 in
+    subst (λ (s : HandlerState). EachGrows {T = Version} (known_at c.fetch.new.self c.fetch.new.reader) (known_at s.taken s.reader)) c.self.view_is
+    (left_grows c.self.inside.reader c.fetch.new.reader grown c.self.inside.taken c.self.inside.asker c.fetch.result c.fetch.new.self c.fetch.ensures.rest c.self.invariant)
 
 pub invariant_of-self-then-is_one : goal.invariant_of-self-then-is_one
 invariant_of-self-then-is_one g c =
-    let grown = meets_grows g.Z.FirstZone.zone c.self.inside.reader c.fetch-fetched.new.reader _ c.fetch-fetched.ensures.met in
-    gone_all c.self.inside.taken c.self.inside.reader c.fetch-fetched.new.reader c.self.inside.asker grown c.remove.new.self c.remove.ensures c.self.invariant
+    let grown = meets_grows g.Z.FirstZone.zone c.self.inside.reader c.fetch.new.reader c.fetch.ensures.met.0 c.fetch.ensures.met.1 in
+    left_all c.self.inside.reader c.fetch.new.reader grown c.self.inside.taken c.self.inside.asker c.fetch.result c.fetch.new.self c.fetch.ensures.rest c.self.invariant
 
-pub invariant_of-self-2 : goal.invariant_of-self-2
-invariant_of-self-2 g c =
-    let grown = meets_grows g.Z.FirstZone.zone c.self.inside.reader c.fetch-fetched.new.reader _ c.fetch-fetched.ensures.met in
-    gone_all c.self.inside.taken c.self.inside.reader c.fetch-fetched.new.reader c.self.inside.asker grown c.remove.new.self c.remove.ensures c.self.invariant
+pub invariant_of-self-in-Ready : goal.invariant_of-self-in-Ready
+invariant_of-self-in-Ready g c =
+    let grown = meets_grows g.Z.FirstZone.zone c.self.inside.reader c.fetch.new.reader c.fetch.ensures.met.0 c.fetch.ensures.met.1 in
+    left_all c.self.inside.reader c.fetch.new.reader grown c.self.inside.taken c.self.inside.asker c.fetch.result c.fetch.new.self c.fetch.ensures.rest c.self.invariant
 
-pub returns-in_default-fetched-2 : goal.returns-in_default-fetched-2
-returns-in_default-fetched-2 g c =
-    let grown = meets_grows g.Z.FirstZone.zone c.self.inside.reader c.fetch-fetched.new.reader _ c.fetch-fetched.ensures.met in
+pub invariant_of-self-in-Unknown : goal.invariant_of-self-in-Unknown
+invariant_of-self-in-Unknown g c =
+    let grown = meets_grows g.Z.FirstZone.zone c.self.inside.reader c.fetch.new.reader c.fetch.ensures.met.0 c.fetch.ensures.met.1 in
+    left_all c.self.inside.reader c.fetch.new.reader grown c.self.inside.taken c.self.inside.asker c.fetch.result c.fetch.new.self c.fetch.ensures.rest c.self.invariant
+
+pub returns-else-may : goal.returns-else-may
+returns-else-may g c =
+    let grown = meets_grows g.Z.FirstZone.zone c.self.inside.reader c.fetch.new.reader c.fetch.ensures.met.0 c.fetch.ensures.met.1 in
     record {
-      peer = ap (λ (s : HandlerState). s.peer) c.self.view_is;
-      asker = ap (λ (s : HandlerState). s.asker) c.self.view_is;
-      submits = ap (λ (s : HandlerState). s.submits) c.self.view_is;
+      peer = c.abandon.ensures.peer ∙ ap (λ (s : HandlerState). s.peer) c.self.view_is;
+      asker = c.abandon.ensures.asker ∙ ap (λ (s : HandlerState). s.asker) c.self.view_is;
+      submits = c.abandon.ensures.submits ∙ ap (λ (s : HandlerState). s.submits) c.self.view_is;
       grows =
-          subst (λ (s : HandlerState). EachGrows {T = Version} (known_at c.remove.new.self c.fetch-fetched.new.reader) (known_at s.taken s.reader)) c.self.view_is
-          (gone_grows c.self.inside.taken c.self.inside.reader c.fetch-fetched.new.reader c.self.inside.asker grown c.remove.new.self c.remove.ensures c.self.invariant);
-      none = λ _. subst (λ (s : HandlerState). place_in c.remove.new.self s.asker ≡ None) c.self.view_is (gone_none c.self.inside.taken c.self.inside.reader c.fetch-fetched.new.reader c.self.inside.asker grown c.remove.new.self c.remove.ensures);
+          subst (λ (s : HandlerState). EachGrows {T = Version} (known_at c.abandon.new.self.taken c.abandon.new.self.reader) (known_at s.taken s.reader)) c.self.view_is
+          (each_more _ _ _ (left_grows c.self.inside.reader c.fetch.new.reader grown c.self.inside.taken c.self.inside.asker c.fetch.result c.fetch.new.self c.fetch.ensures.rest c.self.invariant) c.abandon.ensures.grows);
+      none = λ _. subst (λ (s : HandlerState). place_in c.abandon.new.self.taken s.asker ≡ None) c.self.view_is c.abandon.ensures.none;
       bound = tt;
       replied = tt;
     }
 
-pub returns : goal.returns
-returns g c =
-    let grown = meets_grows g.Z.FirstZone.zone c.self.inside.reader c.fetch-fetched.new.reader _ c.fetch-fetched.ensures.met in
+pub returns-in-Unknown : goal.returns-in-Unknown
+returns-in-Unknown g c =
+    let grown = meets_grows g.Z.FirstZone.zone c.self.inside.reader c.fetch.new.reader c.fetch.ensures.met.0 c.fetch.ensures.met.1 in
+    let gone = c.abandon-in-Unknown in
     record {
-      peer = ap (λ (s : HandlerState). s.peer) c.self.view_is;
-      asker = ap (λ (s : HandlerState). s.asker) c.self.view_is;
-      submits = ap (λ (s : HandlerState). s.submits) c.self.view_is;
+      peer = gone.ensures.peer ∙ ap (λ (s : HandlerState). s.peer) c.self.view_is;
+      asker = gone.ensures.asker ∙ ap (λ (s : HandlerState). s.asker) c.self.view_is;
+      submits = gone.ensures.submits ∙ ap (λ (s : HandlerState). s.submits) c.self.view_is;
       grows =
-          subst (λ (s : HandlerState). EachGrows {T = Version} (known_at c.remove.new.self c.fetch-fetched.new.reader) (known_at s.taken s.reader)) c.self.view_is
-          (gone_grows c.self.inside.taken c.self.inside.reader c.fetch-fetched.new.reader c.self.inside.asker grown c.remove.new.self c.remove.ensures c.self.invariant);
-      none = λ _. subst (λ (s : HandlerState). place_in c.remove.new.self s.asker ≡ None) c.self.view_is (gone_none c.self.inside.taken c.self.inside.reader c.fetch-fetched.new.reader c.self.inside.asker grown c.remove.new.self c.remove.ensures);
+          subst (λ (s : HandlerState). EachGrows {T = Version} (known_at gone.new.self.taken gone.new.self.reader) (known_at s.taken s.reader)) c.self.view_is
+          (each_more _ _ _ (left_grows c.self.inside.reader c.fetch.new.reader grown c.self.inside.taken c.self.inside.asker c.fetch.result c.fetch.new.self c.fetch.ensures.rest c.self.invariant) gone.ensures.grows);
+      none = λ _. subst (λ (s : HandlerState). place_in gone.new.self.taken s.asker ≡ None) c.self.view_is gone.ensures.none;
       bound = tt;
       replied = tt;
     }
@@ -76,25 +82,23 @@ returns g c =
 pub returns-then-is_one : goal.returns-then-is_one
 returns-then-is_one g c =
     let first = g.Z.FirstZone.zone in
-    let grown = meets_grows first c.self.inside.reader c.fetch-fetched.new.reader _ c.fetch-fetched.ensures.met in
+    let grown = meets_grows first c.self.inside.reader c.fetch.new.reader c.fetch.ensures.met.0 c.fetch.ensures.met.1 in
     let here : place_in c.self.inside.taken c.self.inside.asker ≡ Some c.in-Some.place = sym c.at.ensures ∙ c.in-Some.is in
-    let reported : IsDone first c.fetch-fetched.new.reader.seen c.in-Ready.done = subst (λ (f : Poll). IsFetched first c.fetch-fetched.new.reader.seen f) c.in-Ready.is c.fetch-fetched.ensures.fetched in
+    let reported : IsDone first c.fetch.new.reader.seen c.in-Ready.done = subst (λ (f : Poll). IsFetched first c.fetch.new.reader.seen f) c.in-Ready.is c.fetch.ensures.fetched in
     let alone : c.in-Ready.done.asked.messages ≡ c.args.request.now ∷ [] = sym c.messages.ensures ∙ c.is_one.ensures.0 c.if-is_one.true in
     let may : c.in-Ready.done.asked.may ≡ true = sym c.may.ensures ∙ c.if-may.true in
     let permitted : c.self.inside.peer.may_update ≡ true = subst (λ (s : HandlerState). s.peer.may_update ≡ true) (sym c.self.view_is) c.requires.later.1 in
-    let none = gone_none c.self.inside.taken c.self.inside.reader c.fetch-fetched.new.reader c.self.inside.asker grown c.remove.new.self c.remove.ensures in
-    let replied = taken_replied first c.self.inside.peer c.self.inside.taken c.self.inside.reader c.fetch-fetched.new.reader c.self.inside.asker _ c.in-Some.place c.in-Ready.done c.args.request.now c.reply_done.new.out c.reply_done.result c.self.invariant here c.fetch-fetched.ensures.met reported alone may permitted c.reply_done.ensures.octets in
+    let replied = taken_replied first c.self.inside.peer c.self.inside.taken c.self.inside.reader c.fetch.new.reader c.self.inside.asker c.fetch.ensures.met.0 c.in-Some.place c.in-Ready.done c.args.request.now c.reply_done.new.out c.reply_done.result c.self.invariant here c.fetch.ensures.met.1 reported alone may permitted c.reply_done.ensures.octets in
     record {
       peer = ap (λ (s : HandlerState). s.peer) c.self.view_is;
       asker = ap (λ (s : HandlerState). s.asker) c.self.view_is;
       submits = ap (λ (s : HandlerState). s.submits) c.self.view_is;
       grows =
-          subst (λ (s : HandlerState). EachGrows {T = Version} (known_at c.remove.new.self c.fetch-fetched.new.reader) (known_at s.taken s.reader)) c.self.view_is
-          (gone_grows c.self.inside.taken c.self.inside.reader c.fetch-fetched.new.reader c.self.inside.asker grown c.remove.new.self c.remove.ensures c.self.invariant);
+          subst (λ (s : HandlerState). EachGrows {T = Version} (known_at c.fetch.new.self c.fetch.new.reader) (known_at s.taken s.reader)) c.self.view_is
+          (left_grows c.self.inside.reader c.fetch.new.reader grown c.self.inside.taken c.self.inside.asker c.fetch.result c.fetch.new.self c.fetch.ensures.rest c.self.invariant);
       none = λ is. absurd (apart c.reply_done.result is);
       bound = λ len is. subst (λ (n : ℕ). (n ≤ message_limit) × (n ≤ length c.reply_done.new.out)) (same_len c.reply_done.result len is) c.reply_done.ensures.bound;
       replied = λ _.
-          subst (λ (s : HandlerState). IsReplied first s.peer (known_at s.taken s.reader s.asker) (known_at c.remove.new.self c.fetch-fetched.new.reader s.asker) c.args.request.now (take c.reply_done.result c.reply_done.new.out ∷ [])) c.self.view_is
-          (subst (λ (l : Learned Version). IsReplied first c.self.inside.peer (known_at c.self.inside.taken c.self.inside.reader c.self.inside.asker) l c.args.request.now (take c.reply_done.result c.reply_done.new.out ∷ []))
-          (sym (none_known c.remove.new.self c.fetch-fetched.new.reader c.self.inside.asker none)) replied);
+          subst (λ (s : HandlerState). IsMadeBy first s.peer (known_at s.taken s.reader s.asker) (known_at c.fetch.new.self c.fetch.new.reader s.asker) c.args.request.now (take c.reply_done.result c.reply_done.new.out ∷ [])) c.self.view_is
+          (waited (subst (λ (s : HandlerState). IsLater s.peer c.args.request.now) (sym c.self.view_is) c.requires.later) replied);
     }

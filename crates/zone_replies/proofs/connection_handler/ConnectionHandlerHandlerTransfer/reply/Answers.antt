@@ -2,6 +2,8 @@
 use Rattle.std.proofs.Common.{◌≡◌, [], ◌∷◌, None, take, inl, inr, sym, ap, ◌∙◌, subst, rules}
 use Rattle.std.specs.Prelude.{is_some}
 use Rattle.std.proofs.lemmas.Result.{IfErr-weaker}
+use Rattle.dns_message.specs.Request.{reads}
+use Rattle.dns_message.specs.declared.query.Parsed.TheVariants.{Silent}
 use Rattle.zone_tree.specs.Version.{Version}
 use Rattle.snapshot_cell.specs.Tokens.{ReaderState}
 use Rattle.serve_core.specs.declared.peer.Peer.{Peer}
@@ -10,13 +12,15 @@ use Rattle.tcp_connections.proofs.AskedLemmas.{each_more}
 use Rattle.tcp_connections.specs.Kept.{messages_of}
 use Rattle.tcp_connections.specs.declared.handler.Reply.{Reply}
 use Rattle.zone_replies.specs.declared.transfer.Transfer.{Transfer}
+use Rattle.zone_server.specs.Known.{learned_by}
 use Rattle.zone_server.proofs.AnswerLemmas.{answer_grows}
+use Rattle.zone_server.proofs.ReplyLemmas.{silent_replied}
 use Rattle.zone_server.proofs.StartedLemmas.{starts, transfer_replies, transfer_grows, transfer_spent}
 use Rattle.zone_replies.specs.Going.{transfer_left}
 use Rattle.zone_replies.specs.State.{HandlerState}
 use Rattle.zone_replies.specs.PendingUpdates.{known_at, place_in, IsLater}
 use Rattle.zone_replies.proofs.PendingLemmas.{known_grows, taken_grow}
-use Rattle.zone_replies.proofs.PendingRepliedLemmas.{step_replied, settled_replied, settled_replies, never_later, query_never_later, transfer_unlater, spent_left, spent_unanswered, permits_moved}
+use Rattle.zone_replies.proofs.PendingRepliedLemmas.{step_made, settled_made, settled_all, never_later, query_never_later, silent_never_later, transfer_unlater, spent_left, spent_unanswered, permits_moved}
 use Rattle.zone_replies.proofs.connection_handler.ConnectionHandlerHandlerTransfer.reply.Goals as goal
 
 pub invariant_of-self : goal.invariant_of-self
@@ -49,8 +53,18 @@ returns-in-Bytes-clause-reply g c = λ _.
     let peer : c.self.inside.peer ≡ c.args.self.now.peer = subst (λ (s : HandlerState). s.peer ≡ c.args.self.now.peer) (sym c.self.view_is) c.settle.ensures.peer in
     let none : place_in c.self.inside.taken c.args.self.now.asker ≡ None = subst (λ (s : HandlerState). place_in s.taken c.args.self.now.asker ≡ None) (sym c.self.view_is)
     (c.settle.ensures.other (inr (never_later c.args.self.now.peer c.args.request.now c.in-Bytes.ensures.answer.2.other))) in
-    settled_replied g.Z.FirstZone.zone c.args.self.now c.self.inside.peer c.self.inside.taken c.self.inside.reader c.answer_request.new.reader c.args.request.now (take c.in-Bytes.len c.answer_request.new.out ∷ []) peer none
+    settled_made g.Z.FirstZone.zone c.args.self.now c.self.inside.peer c.self.inside.taken c.self.inside.reader c.answer_request.new.reader c.args.request.now (take c.in-Bytes.len c.answer_request.new.out ∷ []) peer none
     (subst (λ (s : HandlerState). EachGrows {T = Version} (known_at s.taken s.reader) (known_at c.args.self.now.taken c.args.self.now.reader)) (sym c.self.view_is) c.settle.ensures.grows) c.in-Bytes.ensures.answer.1
+
+pub returns-in-Silent-clause-reply : goal.returns-in-Silent-clause-reply
+returns-in-Silent-clause-reply g c = λ _.
+    let peer : c.self.inside.peer ≡ c.args.self.now.peer = subst (λ (s : HandlerState). s.peer ≡ c.args.self.now.peer) (sym c.self.view_is) c.settle.ensures.peer in
+    let silent : reads c.args.request.now ≡ Silent = c.in-Silent.ensures.answer.0 in
+    let none : place_in c.self.inside.taken c.args.self.now.asker ≡ None = subst (λ (s : HandlerState). place_in s.taken c.args.self.now.asker ≡ None) (sym c.self.view_is)
+    (c.settle.ensures.other (inr (silent_never_later c.args.self.now.peer c.args.request.now silent))) in
+    settled_made g.Z.FirstZone.zone c.args.self.now c.self.inside.peer c.self.inside.taken c.self.inside.reader c.answer_request.new.reader c.args.request.now [] peer none
+    (subst (λ (s : HandlerState). EachGrows {T = Version} (known_at s.taken s.reader) (known_at c.args.self.now.taken c.args.self.now.reader)) (sym c.self.view_is) c.settle.ensures.grows)
+    (silent_replied g.Z.FirstZone.zone c.self.inside.peer (learned_by c.self.inside.reader) (learned_by c.answer_request.new.reader) c.args.request.now silent)
 
 pub returns-in-Spent-clause-spent : goal.returns-in-Spent-clause-spent
 returns-in-Spent-clause-spent g c = λ _. ap (λ (r : ReaderState Version). r.left) c.in-Spent.ensures.answer.1.1 ∙ c.in-Spent.ensures.answer.1.0
@@ -70,7 +84,7 @@ returns-in-Update-clause-reply g c =
     let peer : c.self.inside.peer ≡ c.args.self.now.peer = subst (λ (s : HandlerState). s.peer ≡ c.args.self.now.peer) (sym c.self.view_is) c.settle.ensures.peer in
     let asker : c.self.inside.asker ≡ c.args.self.now.asker = subst (λ (s : HandlerState). s.asker ≡ c.args.self.now.asker) (sym c.self.view_is) c.settle.ensures.asker in
     let mid : HandlerState = record { reader = c.answer_request.new.reader; peer = c.self.inside.peer; asker = c.self.inside.asker; taken = c.self.inside.taken; submits = c.args.self.now.submits } in
-    step_replied g.Z.FirstZone.zone transfer_left c.args.request.now c.reply_update.new.out c.args.self.now mid (known_at c.reply_update.new.self.taken c.reply_update.new.self.reader) c.reply_update.result peer asker
+    step_made g.Z.FirstZone.zone transfer_left c.args.request.now c.reply_update.new.out c.args.self.now mid (known_at c.reply_update.new.self.taken c.reply_update.new.self.reader) c.reply_update.result peer asker
     (each_more _ _ _ (subst (λ (s : HandlerState). EachGrows {T = Version} (known_at s.taken s.reader) (known_at c.args.self.now.taken c.args.self.now.reader)) (sym c.self.view_is) c.settle.ensures.grows)
     (known_grows c.self.inside.taken c.self.inside.reader c.answer_request.new.reader (answer_grows g.Z.FirstZone.zone c.self.inside.peer c.args.request.now c.self.inside.reader c.answer_request.new.reader c.answer_request.new.query c.answer_request.new.out c.answer_request.result c.answer_request.ensures.answer))) c.reply_update.ensures.replied
 
@@ -106,7 +120,7 @@ returns-in-Transfer-clause-reply g c =
     let peer : c.self.inside.peer ≡ c.args.self.now.peer = subst (λ (s : HandlerState). s.peer ≡ c.args.self.now.peer) (sym c.self.view_is) c.settle.ensures.peer in
     let none : place_in c.self.inside.taken c.args.self.now.asker ≡ None = subst (λ (s : HandlerState). place_in s.taken c.args.self.now.asker ≡ None) (sym c.self.view_is)
     (c.settle.ensures.other (inr (query_never_later c.args.self.now.peer c.args.request.now (c.answer_request.new.query, c.in-Transfer.ensures.answer.asked)))) in
-    settled_replies g.Z.FirstZone.zone transfer_left c.args.self.now c.self.inside.peer c.self.inside.taken c.self.inside.reader c.begin_transfer.new.reader c.args.request.now c.begin_transfer.new.out c.begin_transfer.result peer none
+    settled_all g.Z.FirstZone.zone transfer_left c.args.self.now c.self.inside.peer c.self.inside.taken c.self.inside.reader c.begin_transfer.new.reader c.args.request.now c.begin_transfer.new.out c.begin_transfer.result peer none
     (subst (λ (s : HandlerState). EachGrows {T = Version} (known_at s.taken s.reader) (known_at c.args.self.now.taken c.args.self.now.reader)) (sym c.self.view_is) c.settle.ensures.grows)
     (transfer_replies g.Z.FirstZone.zone c.self.inside.peer c.args.request.now c.self.inside.reader c.answer_request.new.reader c.begin_transfer.new.reader c.replace-query.result c.in-Transfer.strong (permits_moved g.Z.FirstZone.zone c.self.inside.peer c.args.request.now c.self.inside.reader c.answer_request.new.reader c.in-Transfer.strong c.answer_request.new.query c.replace-query.result c.replace-query.ensures.value c.in-Transfer.ensures.answer) (λ (reply : Reply Transfer). messages_of transfer_left reply c.begin_transfer.new.out)
     c.begin_transfer.result c.begin_transfer.ensures.started)

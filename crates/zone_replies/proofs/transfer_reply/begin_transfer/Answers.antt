@@ -4,7 +4,7 @@ use Rattle.zone_tree.specs.Zone.{soa_of}
 use Rattle.zone_tree.specs.Version.{Version}
 use Rattle.dns_engine.specs.Chain.{changes_by}
 use Rattle.serve_core.specs.Transfers.{messages_to}
-use Rattle.zone_replies.proofs.connection_handler.begin_transfer.Goals as goal
+use Rattle.zone_replies.proofs.transfer_reply.begin_transfer.Goals as goal
 
 pub returns-in-Ok-clause-started : goal.returns-in-Ok-clause-started
 returns-in-Ok-clause-started g c =
