@@ -10,6 +10,7 @@
 mod fault;
 mod follows;
 mod laws;
+mod owner_steps;
 mod run_laws;
 mod word_laws;
 mod word_machine;

@@ -23,8 +23,8 @@ pub struct WordMachine<T> {
     table: Vec<Slot<T>>,
     publisher: Publisher,
     owners: Vec<Owner>,
-    granted: u64,
-    noted: u64,
+    pub(crate) granted: u64,
+    pub(crate) noted: u64,
 }
 
 impl<T> Model for WordMachine<T> {
@@ -154,21 +154,21 @@ impl<T: Drop> WordMachine<T> {
     }
 
     /// How far an owner has come.
-    fn owner(&self, owner: usize) -> Option<Owner>
+    pub(crate) fn owner(&self, owner: usize) -> Option<Owner>
         ensures { result ≡ slice_get self.now.owners owner }
     {
         self.owners.get(owner).copied()
     }
 
     /// The word S of a slot.
-    fn shares(&self, slot: usize) -> Option<u64>
+    pub(crate) fn shares(&self, slot: usize) -> Option<u64>
         ensures { result ≡ option_map (λ (there : Slot T). there.shares) (slice_get self.now.table slot) }
     {
         Some(self.table.get(slot)?.shares)
     }
 
     /// Writes the word S of a slot.
-    fn set_shares(&mut self, slot: usize, shares: u64)
+    pub(crate) fn set_shares(&mut self, slot: usize, shares: u64)
         ensures { (there : Slot T) → slice_get self.old.table slot ≡ Some there
             → self.new ≡ with_slot slot (with_shares shares there) self.old }
     {
@@ -178,14 +178,14 @@ impl<T: Drop> WordMachine<T> {
     }
 
     /// The word K of a slot.
-    fn weak(&self, slot: usize) -> Option<u64>
+    pub(crate) fn weak(&self, slot: usize) -> Option<u64>
         ensures { result ≡ option_map (λ (there : Slot T). there.weak) (slice_get self.now.table slot) }
     {
         Some(self.table.get(slot)?.weak)
     }
 
     /// Writes the word K of a slot.
-    fn set_weak(&mut self, slot: usize, weak: u64)
+    pub(crate) fn set_weak(&mut self, slot: usize, weak: u64)
         ensures { (there : Slot T) → slice_get self.old.table slot ≡ Some there
             → self.new ≡ with_slot slot (with_weak_word weak there) self.old }
     {
@@ -195,14 +195,14 @@ impl<T: Drop> WordMachine<T> {
     }
 
     /// The number and the slot of the version that an owner has, weakly or not.
-    fn owned(&self, owner: usize) -> Option<(u64, usize)>
+    pub(crate) fn owned(&self, owner: usize) -> Option<(u64, usize)>
         ensures { result ≡ owned_in self.now owner }
     {
         owned_version(self.owner(owner)?)
     }
 
     /// One owner more, after the others: its place.
-    fn new_owner(&mut self, how: Owner) -> Result<usize, StepFault>
+    pub(crate) fn new_owner(&mut self, how: Owner) -> Result<usize, StepFault>
         ensures ok { IfOk result (λ owner. (owner ≡ length self.old.owners) × (self.new ≡ with_new_owner how self.old)) }
         ensures refused { IfErr result (λ fault. (fault ≡ StepFault.NoMemory) × (self.new ≡ self.old)) }
     {
@@ -214,7 +214,7 @@ impl<T: Drop> WordMachine<T> {
     }
 
     /// An owner has come further.
-    fn set_owner(&mut self, owner: usize, how: Owner)
+    pub(crate) fn set_owner(&mut self, owner: usize, how: Owner)
         ensures { (before : Owner) → slice_get self.old.owners owner ≡ Some before
             → self.new ≡ with_owner owner how self.old }
     {
@@ -422,132 +422,6 @@ impl<T: Drop> WordMachine<T> {
         self.set_owner(owner, Owner::Spent);
         Ok(WordEvent::Freed)
     }
-
-    /// It is seen whether the version that an owner has is buried.
-    fn look(&mut self, owner: usize) -> Result<WordEvent, StepFault>
-        ensures word { IfOk result (λ event. Makes {T = T} self.old (WordStep.Look owner) event self.new) }
-        ensures not_enabled { IsErrOf result StepFault.NotEnabled → HasWordStep {T = T} self.old (WordStep.Look owner) → ⊥ }
-        ensures no_memory { IsErrOf result StepFault.NoMemory → ⊥ }
-        ensures unchanged { OnErr result (self.new ≡ self.old) }
-    {
-        let Some((_, slot)) = self.owned(owner) else {
-            return Err(StepFault::NotEnabled);
-        };
-        let Some(shares) = self.shares(slot) else {
-            return Err(StepFault::NotEnabled);
-        };
-        if shares < DEAD {
-            Ok(WordEvent::Alive)
-        } else {
-            Ok(WordEvent::Dead)
-        }
-    }
-
-    /// One share more of what an owner has is given out, unless it is buried.
-    fn raise(&mut self, owner: usize) -> Result<WordEvent, StepFault>
-        ensures word { IfOk result (λ event. Makes {T = T} self.old (WordStep.Raise owner) event self.new) }
-        ensures not_enabled { IsErrOf result StepFault.NotEnabled → HasWordStep {T = T} self.old (WordStep.Raise owner) → ⊥ }
-        ensures no_memory { IsErrOf result StepFault.NoMemory → HasWordStep {T = T} self.old (WordStep.Raise owner) }
-        ensures unchanged { OnErr result (self.new ≡ self.old) }
-    {
-        let Some((number, slot)) = self.owned(owner) else {
-            return Err(StepFault::NotEnabled);
-        };
-        let Some(shares) = self.shares(slot) else {
-            return Err(StepFault::NotEnabled);
-        };
-        if self.granted >= GRANTS {
-            return Err(StepFault::NotEnabled);
-        }
-        let granted = self.granted + 1;
-        if shares >= DEAD {
-            self.set_shares(slot, shares.wrapping_add(1));
-            self.granted = granted;
-            return Ok(WordEvent::Dead);
-        }
-        let next = self.new_owner(Owner::Holding { number, slot })?;
-        self.set_shares(slot, shares.wrapping_add(1));
-        self.granted = granted;
-        Ok(WordEvent::Raised {
-            owner: next,
-            number,
-        })
-    }
-
-    /// The publisher makes a weak owner of the version that an owner has.
-    fn note(&mut self, owner: usize) -> Result<WordEvent, StepFault>
-        ensures word { IfOk result (λ event. Makes {T = T} self.old (WordStep.Note owner) event self.new) }
-        ensures not_enabled { IsErrOf result StepFault.NotEnabled → HasWordStep {T = T} self.old (WordStep.Note owner) → ⊥ }
-        ensures no_memory { IsErrOf result StepFault.NoMemory → HasWordStep {T = T} self.old (WordStep.Note owner) }
-        ensures unchanged { OnErr result (self.new ≡ self.old) }
-    {
-        let Some(Owner::Holding { number, slot }) = self.owner(owner) else {
-            return Err(StepFault::NotEnabled);
-        };
-        let Some(weak) = self.weak(slot) else {
-            return Err(StepFault::NotEnabled);
-        };
-        if self.noted >= NOTES {
-            return Err(StepFault::NotEnabled);
-        }
-        let noted = self.noted + 1;
-        let next = self.new_owner(Owner::Weakly { number, slot })?;
-        self.set_weak(slot, weak.wrapping_add(1));
-        self.noted = noted;
-        Ok(WordEvent::Noted {
-            owner: next,
-            number,
-        })
-    }
-
-    /// A weak owner, or the owner whose bury won, is counted in K no more.
-    fn fade(&mut self, owner: usize) -> Result<WordEvent, StepFault>
-        ensures word { IfOk result (λ event. Makes {T = T} self.old (WordStep.Fade owner) event self.new) }
-        ensures not_enabled { IsErrOf result StepFault.NotEnabled → HasWordStep {T = T} self.old (WordStep.Fade owner) → ⊥ }
-        ensures no_memory { IsErrOf result StepFault.NoMemory → ⊥ }
-        ensures unchanged { OnErr result (self.new ≡ self.old) }
-    {
-        let Some(slot) = self.fading(owner) else {
-            return Err(StepFault::NotEnabled);
-        };
-        let Some(weak) = self.weak(slot) else {
-            return Err(StepFault::NotEnabled);
-        };
-        let others = weak.wrapping_sub(1);
-        self.set_weak(slot, others);
-        if others == 0 {
-            self.set_owner(owner, Owner::Resetting(slot));
-            Ok(WordEvent::Closed)
-        } else {
-            self.set_owner(owner, Owner::Spent);
-            Ok(WordEvent::Faded)
-        }
-    }
-
-    /// The slot whose K counts an owner that is to fade.
-    fn fading(&self, owner: usize) -> Option<usize>
-        ensures { result ≡ option_and_then fading_of (slice_get self.now.owners owner) }
-    {
-        fading_slot(self.owner(owner)?)
-    }
-
-    /// The owner that has brought K to 0 sets it to 1.
-    fn reset(&mut self, owner: usize) -> Result<WordEvent, StepFault>
-        ensures word { IfOk result (λ event. Makes {T = T} self.old (WordStep.Reset owner) event self.new) }
-        ensures not_enabled { IsErrOf result StepFault.NotEnabled → HasWordStep {T = T} self.old (WordStep.Reset owner) → ⊥ }
-        ensures no_memory { IsErrOf result StepFault.NoMemory → ⊥ }
-        ensures unchanged { OnErr result (self.new ≡ self.old) }
-    {
-        let Some(Owner::Resetting(slot)) = self.owner(owner) else {
-            return Err(StepFault::NotEnabled);
-        };
-        if self.weak(slot).is_none() {
-            return Err(StepFault::NotEnabled);
-        }
-        self.set_weak(slot, 1);
-        self.set_owner(owner, Owner::Freeing(slot));
-        Ok(WordEvent::Restored)
-    }
 }
 
 /// The number and the slot of the version that an owner has, weakly or not, and nothing besides.
@@ -557,17 +431,6 @@ fn owned_version(how: Owner) -> Option<(u64, usize)>
     match how {
         Owner::Holding { number, slot } => Some((number, slot)),
         Owner::Weakly { number, slot } => Some((number, slot)),
-        _ => None,
-    }
-}
-
-/// The slot whose K counts an owner that is to fade.
-fn fading_slot(how: Owner) -> Option<usize>
-    ensures { result ≡ fading_of how }
-{
-    match how {
-        Owner::Weakly { number: _, slot } => Some(slot),
-        Owner::Fading(slot) => Some(slot),
         _ => None,
     }
 }
