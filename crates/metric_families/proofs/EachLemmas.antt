@@ -1,5 +1,5 @@
 -- A family to which a sample is put for each of a list.
-use Rattle.std.proofs.Common.{◌≡◌, ℕ, ◌+◌, ◌<◌, List, [], ◌∷◌, map, drop, length, get_or, ap, ◌∙◌, sym}
+use Rattle.std.proofs.Common.{◌≡◌, ℕ, ◌+◌, ◌<◌, List, [], ◌∷◌, ◌++◌, map, flat_map, drop, length, get_or, ap, ◌∙◌, sym}
 use Rattle.std.proofs.lemmas.List.{append_assoc, drop_more}
 use Rattle.metrics_text.specs.Families.{FamilyOf, with_sample, with_samples}
 use Rattle.metrics_text.specs.Samples.{SampleOf}
@@ -17,3 +17,23 @@ one_more f family next whole all i a within put before =
     let left = map f (drop (i + 1) all) in
     ap (λ (it : FamilyOf). with_samples it left) put
     ∙ (appended family (f (get_or all i a)) left ∙ (sym (ap (λ ls. with_samples family (map f ls)) (drop_more all i a within)) ∙ before))
+
+-- three samples after one another are one list
+pub three : (family : FamilyOf) {one two all : FamilyOf} {a b c : SampleOf} → one ≡ with_sample family a → two ≡ with_sample one b → all ≡ with_sample two c → all ≡ with_samples family (a ∷ (b ∷ (c ∷ [])))
+three family {a = a} {b = b} {c = c} first second third =
+    third ∙ (ap (λ (it : FamilyOf). with_sample it c) (second ∙ ap (λ (it : FamilyOf). with_sample it b) first)
+    ∙ (appended (with_sample family a) b (c ∷ []) ∙ appended family a (b ∷ (c ∷ []))))
+
+-- the samples of two lists after one another are one list
+joined : (family : FamilyOf) (some more : List SampleOf) → with_samples (with_samples family some) more ≡ with_samples family (some ++ more)
+joined family some more =
+    let of_samples : List SampleOf → FamilyOf = λ samples. record { name = family.name; help = family.help; kind = family.kind; samples = samples } in
+    ap of_samples (append_assoc family.samples some more)
+
+-- once the samples of the next are put, what is there, with what is left, is still all
+pub several_more : {A : Type 0} (f : A → List SampleOf) (family next whole : FamilyOf) (all : List A) (i : ℕ) (a : A) → i < length all → next ≡ with_samples family (f (get_or all i a))
+    → with_samples family (flat_map f (drop i all)) ≡ whole → with_samples next (flat_map f (drop (i + 1) all)) ≡ whole
+several_more f family next whole all i a within put before =
+    let left = flat_map f (drop (i + 1) all) in
+    ap (λ (it : FamilyOf). with_samples it left) put
+    ∙ (joined family (f (get_or all i a)) left ∙ (sym (ap (λ ls. with_samples family (flat_map f ls)) (drop_more all i a within)) ∙ before))

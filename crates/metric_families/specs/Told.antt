@@ -9,6 +9,10 @@ use Rattle.metric_families.specs.Samples.{one_label, two_labels, whole_sample}
 abbrev pub plain_family : List ℕ → List ℕ → Kind → ℕ → FamilyOf
 plain_family name help kind number = with_sample (empty_family name help kind) (whole_sample number)
 
+-- a family of one number with one label
+abbrev pub one_family : List ℕ → List ℕ → Kind → List ℕ → List ℕ → ℕ → FamilyOf
+one_family name help kind label value number = with_sample (empty_family name help kind) (one_label label value number)
+
 -- a sample for each, with one label: its word, and its number
 abbrev pub each_labelled : {A : Type 0} → List ℕ → (A → List ℕ) → (A → ℕ) → List A → List SampleOf
 each_labelled label word number all = map (λ a. one_label label (word a) (number a)) all

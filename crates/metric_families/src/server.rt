@@ -1,11 +1,13 @@
 //! What is known of a server without counters.
-ghost use Rattle.std.specs.Prelude.{◌≡◌, ◌++◌, OnOk};
-ghost use Rattle.metric_families.specs.Known.{store_seen};
+ghost use Rattle.std.specs.Prelude.{◌≡◌, ◌++◌, ◌∷◌, [], IfOk, OnOk};
+ghost use Rattle.metrics_text.specs.Families.{with_samples};
+ghost use Rattle.metric_families.specs.Known.{server_known, zone_known, store_seen, notify_samples, notifies, notify_serials, serial_samples, secondaries_known, drops_known};
 
 use crate::kinds::{COUNTER, GAUGE};
 use crate::single::{labelled_single, put_labelled, put_of_two, single};
 use metrics_text::Family;
 use std::alloc::{AllocError, Global};
+use std::marker::Model;
 
 /// What is known of a server.
 #[derive(Clone, Copy)]
@@ -35,7 +37,10 @@ pub fn server_families(
     alloc: Global,
     families: &mut Vec<Family>,
     facts: Facts<'_>,
-) -> Result<(), AllocError> {
+) -> Result<(), AllocError>
+    ensures { OnOk result (families.new.items ≡ families.old.items
+        ++ server_known facts.entry.version.now facts.entry.started facts.entry.zone.now facts.entry.serial facts.entry.records facts.entry.versions) }
+{
     let build = Family::new(
         alloc,
         "dnsd_build_info",
@@ -50,11 +55,14 @@ pub fn server_families(
         GAUGE,
         facts.started,
     )?)?;
-    put_zone(alloc, families, facts)
+    put_zone(alloc, families, facts)?;
+    Ok(())
 }
 
 /// Puts the families of what is known of the zone after others.
-fn put_zone(alloc: Global, families: &mut Vec<Family>, facts: Facts<'_>) -> Result<(), AllocError> {
+fn put_zone(alloc: Global, families: &mut Vec<Family>, facts: Facts<'_>) -> Result<(), AllocError>
+    ensures { OnOk result (families.new.items ≡ families.old.items ++ zone_known facts.entry.zone.now facts.entry.serial facts.entry.records facts.entry.versions) }
+{
     let (zone, serial) = (facts.zone, u64::from(facts.serial));
     let family = Family::new(alloc, "dnsd_zone_serial", "The serial of the zone", GAUGE);
     families.push(labelled_single(family, alloc, ZONE, zone, serial)?)?;
@@ -116,34 +124,38 @@ pub struct SecondaryFacts {
     pub serial: Option<u32>,
 }
 
+impl Model for SecondaryFacts {
+    ghost use Rattle.std.specs.Prelude.{string_bytes};
+    ghost use Rattle.metric_families.specs.Known.{SecondaryOf};
+
+    ghost Value = { SecondaryOf };
+
+    ghost view = { λ s. record { address = string_bytes s.address; sent = s.sent; answered = s.answered; given_up = s.given_up; serial = s.serial } };
+}
+
 /// Puts the families of what is known of secondaries after others. The fault is a request for memory that was refused; some may then be there.
 pub fn secondary_families(
     alloc: Global,
     families: &mut Vec<Family>,
     secondaries: &[SecondaryFacts],
-) -> Result<(), AllocError> {
-    let mut notifies = Family::new(
-        alloc,
-        "dnsd_notify_total",
-        "NOTIFYs to a secondary, by what became of them",
-        COUNTER,
-    );
-    let mut serials = Family::new(
-        alloc,
-        "dnsd_notify_serial",
-        "The serial that a secondary last answered for",
-        GAUGE,
-    );
-    for each in secondaries {
-        put_notifies(alloc, &mut notifies, each)?;
-        if let Some(serial) = each.serial {
-            let address = each.address.as_str();
-            put_labelled(&mut serials, alloc, SECONDARY, address, u64::from(serial))?;
-        }
-    }
-    families.push(notifies)?;
-    families.push(serials)?;
+) -> Result<(), AllocError>
+    ensures { OnOk result (families.new.items ≡ families.old.items ++ secondaries_known secondaries.now) }
+{
+    families.push(notifies(alloc, secondaries)?)?;
+    families.push(notify_serials(alloc, secondaries)?)?;
     Ok(())
+}
+
+/// The family of NOTIFYs by secondary and by what became of them.
+fn notifies(alloc: Global, secondaries: &[SecondaryFacts]) -> Result<Family, AllocError>
+    ensures { IfOk result (λ family. family ≡ notifies secondaries.now) }
+{
+    let help = "NOTIFYs to a secondary, by what became of them";
+    let mut family = Family::new(alloc, "dnsd_notify_total", help, COUNTER);
+    for secondary in secondaries {
+        put_notifies(alloc, &mut family, secondary)?;
+    }
+    Ok(family)
 }
 
 /// Puts the samples of a secondary's NOTIFYs after others.
@@ -151,7 +163,9 @@ fn put_notifies(
     alloc: Global,
     family: &mut Family,
     facts: &SecondaryFacts,
-) -> Result<(), AllocError> {
+) -> Result<(), AllocError>
+    ensures { OnOk result (family.new ≡ with_samples family.old (notify_samples facts.now)) }
+{
     let secondary = (SECONDARY, facts.address.as_str());
     put_of_two(family, alloc, secondary, ("result", "sent"), facts.sent)?;
     put_of_two(
@@ -167,7 +181,33 @@ fn put_notifies(
         secondary,
         ("result", "given_up"),
         facts.given_up,
-    )
+    )?;
+    Ok(())
+}
+
+/// The family of the serials that secondaries last answered for.
+fn notify_serials(alloc: Global, secondaries: &[SecondaryFacts]) -> Result<Family, AllocError>
+    ensures { IfOk result (λ family. family ≡ notify_serials secondaries.now) }
+{
+    let help = "The serial that a secondary last answered for";
+    let mut family = Family::new(alloc, "dnsd_notify_serial", help, GAUGE);
+    for secondary in secondaries {
+        put_serial(alloc, &mut family, secondary)?;
+    }
+    Ok(family)
+}
+
+/// Puts the sample of the serial that a secondary last answered for after others, if it has answered.
+fn put_serial(alloc: Global, family: &mut Family, facts: &SecondaryFacts) -> Result<(), AllocError>
+    ensures { OnOk result (family.new ≡ with_samples family.old (serial_samples facts.now.address facts.now.serial)) }
+{
+    match facts.serial {
+        Some(serial) => {
+            let address = facts.address.as_str();
+            put_labelled(family, alloc, SECONDARY, address, u64::from(serial))
+        }
+        None => Ok(()),
+    }
 }
 
 /// What the system dropped of the datagrams to an address.
@@ -179,18 +219,33 @@ pub struct Drops {
     pub count: u64,
 }
 
+impl Model for Drops {
+    ghost use Rattle.std.specs.Prelude.{string_bytes};
+    ghost use Rattle.metric_families.specs.Known.{DropsOf};
+
+    ghost Value = { DropsOf };
+
+    ghost view = { λ d. record { address = string_bytes d.address; count = d.count } };
+}
+
 /// Puts the family of what the system dropped after others. The fault is a request for memory that was refused.
 pub fn drop_families(
     alloc: Global,
     families: &mut Vec<Family>,
     drops: &[Drops],
-) -> Result<(), AllocError> {
-    let mut family = Family::new(
-        alloc,
-        "dnsd_udp_drops_total",
-        "Datagrams that the system dropped before the server received them",
-        COUNTER,
-    );
+) -> Result<(), AllocError>
+    ensures { OnOk result (families.new.items ≡ families.old.items ++ drops_known drops.now ∷ []) }
+{
+    families.push(dropped(alloc, drops)?)?;
+    Ok(())
+}
+
+/// The family of datagrams that the system dropped, by address.
+fn dropped(alloc: Global, drops: &[Drops]) -> Result<Family, AllocError>
+    ensures { IfOk result (λ family. family ≡ drops_known drops.now) }
+{
+    let help = "Datagrams that the system dropped before the server received them";
+    let mut family = Family::new(alloc, "dnsd_udp_drops_total", help, COUNTER);
     for each in drops {
         put_labelled(
             &mut family,
@@ -200,6 +255,5 @@ pub fn drop_families(
             each.count,
         )?;
     }
-    families.push(family)?;
-    Ok(())
+    Ok(family)
 }

@@ -1,3 +1,4 @@
+pub mod BareLemmas
 pub mod ConnectionLemmas
 pub mod ErrorLemmas
 pub mod PlainLemmas

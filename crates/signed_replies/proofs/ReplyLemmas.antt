@@ -24,7 +24,7 @@ use Rattle.tsig.specs.declared.verifying.Verification.TheVariants.{Unsigned, Sil
 use Rattle.signed_replies.specs.Rights.{rules_of}
 use Rattle.signed_replies.specs.Signed.{received, plain_of, reply_limit, stamp_at, signed_reply, signed_error, AreSignedAlone, IsReplyBy, IsReplyTo, IsSignedReply}
 
-not_fewer : (a b : ℕ) → b ≤ a → nat_lt a b ≡ false
+pub not_fewer : (a b : ℕ) → b ≤ a → nat_lt a b ≡ false
 not_fewer a b e = grind (arith, nat_tests)
 
 fewer : (a b : ℕ) → a < b → nat_lt a b ≡ true

@@ -11,6 +11,7 @@ ghost use Rattle.signed_replies.specs.Signed.{received, AreSignedAlone, IsReplyB
 ghost use Rattle.tsig.specs.declared.verifying.Verification.TheVariants.{Unsigned as unsigned};
 ghost use Rattle.zone_tree.specs.Version.{Version};
 
+use crate::bare::has_no_tsig;
 use crate::clock::UnixClock;
 use crate::errors::{write_error, write_unsigned};
 use crate::key_ring::{KeyRing, RingKeys};
@@ -42,6 +43,8 @@ pub struct SignedDatagrams<'r, 'k, K: KeyRing, A: SignsLater, C, O> {
     log: O,
     peer: Peer,
     from: SocketAddr,
+    /// Whether that handler may still have the TSIG of a request before.
+    has_tsig: bool,
     room: PlainRoom,
 }
 
@@ -73,6 +76,7 @@ impl<'r, 'k, K: KeyRing, A: SignsLater + Drop, C: UnixClock, O: TsigLog + Drop> 
             log,
             peer,
             from,
+            has_tsig: true,
             room,
         }
     }
@@ -82,6 +86,30 @@ impl<'r, 'k, K: KeyRing, A: SignsLater + Drop, C: UnixClock, O: TsigLog + Drop> 
         ensures { result ≡ self.entry.inner }
     {
         self.inner
+    }
+
+    /// Answers a request whose records are walked through to see whether it has a TSIG. It has a frame of its own, so that others need no room for that.
+    #[inline(never)]
+    fn answer_walked<R: Wait>(
+        &mut self,
+        rt: &R,
+        request: &[u8],
+        out: &mut [u8],
+    ) -> Result<Option<usize>, Spent>
+        requires header { HEADER ≤ length request.now }
+        requires room { message_limit ≤ length out.old }
+        ensures same { self.new.peer ≡ self.old.peer }
+        ensures grows { Grows {T = Version} (A.seen self.new.inner) (A.seen self.old.inner) }
+        ensures bound { IfOk result (λ len. IfSome len (λ n. (n ≤ message_limit) × (n ≤ length out.new))) }
+        ensures reply { IfOk result (λ len. IsReplyTo {T = Version} K.keys K.rights A.is_reply AreSignedAlone (by_datagram self.old.peer) (A.seen self.old.inner) (A.seen self.new.inner) request.now (messages_in len out.new)) }
+    {
+        if request.len() > MAX_LIMIT {
+            return self.answer_plain(rt, request, out);
+        }
+        if request.len() > MAX_SHORT {
+            return self.answer_long(rt, request, out);
+        }
+        self.answer_short(rt, request, out)
     }
 
     /// Answers a request of few octets.
@@ -145,8 +173,22 @@ impl<'r, 'k, K: KeyRing, A: SignsLater + Drop, C: UnixClock, O: TsigLog + Drop> 
         ensures bound { IfOk result (λ len. IfSome len (λ n. (n ≤ message_limit) × (n ≤ length out.new))) }
         ensures reply { IfOk result (λ len. IsReplyTo {K = Learned Version} K.keys K.rights A.is_reply AreSignedAlone (Grows {T = Version}) (by_datagram self.old.peer) (A.seen self.old.inner) (A.seen self.new.inner) request.now (messages_in len out.new)) }
     {
+        self.forget_tsig();
         let (peer, from) = (self.peer, self.from);
-        answer_as(rt, &mut self.inner, peer, from, None, request, out)
+        answer_as(rt, &mut self.inner, peer, from, request, out)
+    }
+
+    /// Has the handler forget the TSIG of a request before.
+    #[tactic(auto, using(requests::proofs::TurnLemmas::grows_itself))]
+    fn forget_tsig(&mut self)
+        ensures same { self.new.peer ≡ self.old.peer }
+        ensures grows { Grows {T = Version} (A.seen self.new.inner) (A.seen self.old.inner) }
+    {
+        if !self.has_tsig {
+            return;
+        }
+        self.has_tsig = false;
+        self.inner.set_tsig(None);
     }
 
     /// Answers a request by what it is by its TSIG at this time. It has a frame of its own, so that a request without a TSIG needs no room for one.
@@ -194,7 +236,8 @@ impl<'r, 'k, K: KeyRing, A: SignsLater + Drop, C: UnixClock, O: TsigLog + Drop> 
         match verified {
             Verification::Unsigned => {
                 let (peer, from) = (self.peer, self.from);
-                answer_as(rt, &mut self.inner, peer, from, None, request, out)
+                self.has_tsig = false;
+                answer_with(rt, &mut self.inner, peer, from, None, request, out)
             }
             Verification::Silent => Ok(None),
             Verification::Malformed => Ok(Some(write_error(
@@ -266,7 +309,8 @@ impl<'r, 'k, K: KeyRing, A: SignsLater + Drop, C: UnixClock, O: TsigLog + Drop> 
             }
         };
         let (from, own) = (self.from, Some(tsig.copy()));
-        let Some(len) = answer_as(rt, &mut self.inner, peer, from, own, plain, out)? else {
+        self.has_tsig = true;
+        let Some(len) = answer_with(rt, &mut self.inner, peer, from, own, plain, out)? else {
             return Ok(None);
         };
         Ok(Some(sign_reply(key, tsig, &stamp_at(now), limit, out, len)))
@@ -334,7 +378,7 @@ impl<'r, 'k, K: KeyRing, A: SignsLater + Drop, C: UnixClock, O: TsigLog + Drop> 
 }
 
 /// Has a handler answer a request of a peer that sends from an address, which came with this TSIG.
-fn answer_as<R: Wait, A: SignsLater>(
+fn answer_with<R: Wait, A: SignsLater>(
     rt: &R,
     inner: &mut A,
     peer: Peer,
@@ -349,8 +393,26 @@ fn answer_as<R: Wait, A: SignsLater>(
     ensures reply { IfOk result (λ len. (before : Learned Version) × Grows before (A.seen inner.old) × Grows (A.seen inner.new) before
         × A.is_reply (by_datagram peer) before (A.seen inner.new) request.now (messages_in len out.new)) }
 {
-    inner.turn_to(peer, from);
     inner.set_tsig(tsig);
+    answer_as(rt, inner, peer, from, request, out)
+}
+
+/// Has a handler answer a request of a peer that sends from an address.
+fn answer_as<R: Wait, A: SignsLater>(
+    rt: &R,
+    inner: &mut A,
+    peer: Peer,
+    from: SocketAddr,
+    request: &[u8],
+    out: &mut [u8],
+) -> Result<Option<usize>, Spent>
+    requires room { message_limit ≤ length out.old }
+    ensures grows { Grows {T = Version} (A.seen inner.new) (A.seen inner.old) }
+    ensures bound { IfOk result (λ len. IfSome len (λ n. (n ≤ message_limit) × (n ≤ length out.new))) }
+    ensures reply { IfOk result (λ len. (before : Learned Version) × Grows before (A.seen inner.old) × Grows (A.seen inner.new) before
+        × A.is_reply (by_datagram peer) before (A.seen inner.new) request.now (messages_in len out.new)) }
+{
+    inner.turn_to(peer, from);
     inner.answer(rt, request, out)
 }
 
@@ -386,12 +448,9 @@ impl<'r, 'k, K: KeyRing, A: SignsLater + Drop, C: UnixClock, O: TsigLog + Drop> 
         if request.len() < HEADER {
             return Ok(None);
         }
-        if request.len() > MAX_LIMIT {
+        if has_no_tsig(request) {
             return self.answer_plain(rt, request, out);
         }
-        if request.len() > MAX_SHORT {
-            return self.answer_long(rt, request, out);
-        }
-        self.answer_short(rt, request, out)
+        self.answer_walked(rt, request, out)
     }
 }

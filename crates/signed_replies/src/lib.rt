@@ -5,6 +5,7 @@
 //! handler doesn't see it.
 #![tactic(auto)]
 
+mod bare;
 mod clock;
 mod connections;
 mod datagrams;

@@ -1,6 +1,7 @@
 //! Sockets bound to an address and a port.
-ghost use Rattle.std.specs.Prelude.{pos};
+ghost use Rattle.std.specs.Prelude.{◌≡◌, pos};
 ghost use Rattle.libc.specs.Net.{Family, Kind as IsKind};
+ghost use Rattle.sockets.specs.Options.{kind_of};
 
 use crate::address::address_octets;
 use crate::option::Choice;
@@ -36,7 +37,8 @@ impl Carried {
     /// The socket type for the system call, with two flags: a call that would block fails instead, and no other program inherits
     /// the socket.
     fn kind(self) -> i32
-        ensures { IsKind result }
+        ensures known { IsKind result }
+        ensures kind { result ≡ kind_of self }
     {
         match self {
             Carried::Datagrams => c::SOCK_DGRAM | c::SOCK_NONBLOCK | c::SOCK_CLOEXEC,

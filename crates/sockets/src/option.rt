@@ -1,6 +1,7 @@
 //! Socket options that are set before a socket is used.
-ghost use Rattle.std.specs.Prelude.{pos};
+ghost use Rattle.std.specs.Prelude.{◌≡◌, pos};
 ghost use Rattle.libc.specs.Net.{SockOption};
+ghost use Rattle.sockets.specs.Options.{option_of};
 
 use crate::system::check;
 use libc::net as c;
@@ -25,7 +26,8 @@ pub(crate) enum Choice {
 impl Choice {
     /// The option's level, and its name at that level.
     fn level_and_name(self) -> (i32, i32)
-        ensures { SockOption result.0 result.1 }
+        ensures known { SockOption result.0 result.1 }
+        ensures option { result ≡ option_of self }
     {
         match self {
             Choice::ReuseAddress => (c::SOL_SOCKET, c::SO_REUSEADDR),

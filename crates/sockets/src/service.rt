@@ -1,5 +1,5 @@
 //! Notifies the service manager, through the socket that systemd names in the environment variable `NOTIFY_SOCKET` (sd_notify(3)).
-ghost use Rattle.std.specs.Prelude.{◌≡◌, ◌≤◌, IfSome, length};
+ghost use Rattle.std.specs.Prelude.{◌≡◌, ◌<◌, ◌≤◌, IfSome, None, length};
 ghost use Rattle.mio.specs.SockAddr.{sockaddr_un};
 
 use crate::address::put;
@@ -59,6 +59,7 @@ impl ServiceManager {
 fn unix_address(name: &[u8], is_abstract: bool) -> Option<([u8; c::_SS_SIZE], u32)>
     ensures octets { IfSome result (λ r. r ≡ sockaddr_un name.now is_abstract) }
     ensures size { IfSome result (λ r. r.1 ≤ 110) }
+    ensures long { result ≡ None → 107 < length name.now }
 {
     if name.len() > NAME_OCTETS {
         return None;

@@ -1,5 +1,6 @@
 //! Waiting until a socket may be ready (Linux, epoll(7)).
-ghost use Rattle.std.specs.Prelude.{◌≡◌};
+ghost use Rattle.std.specs.Prelude.{◌≡◌, ◌-◌, ◌^◌, min};
+ghost use Rattle.std.specs.Duration.{as_nanos};
 
 use crate::peer::TcpPeer;
 use crate::place::TcpPlace;
@@ -95,10 +96,10 @@ impl<'a, C: Clock> Watch<'a, C> {
 }
 
 /// A time in nanoseconds, or the greatest number if the time is longer.
-fn nanos_of(time: Duration) -> u64 {
-    time.as_secs()
-        .saturating_mul(1_000_000_000)
-        .saturating_add(u64::from(time.subsec_nanos()))
+fn nanos_of(time: Duration) -> u64
+    ensures { result ≡ min (as_nanos time) (2 ^ 64 - 1) }
+{
+    u64::try_from(time.as_nanos()).unwrap_or(u64::MAX)
 }
 
 impl<C: Clock> Readiness<TcpPeer> for Watch<'_, C> {

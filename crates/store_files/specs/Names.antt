@@ -13,6 +13,10 @@ path_of dir name = dir ++ (codes "/" ++ name)
 abbrev pub text_name : ℕ → List ℕ
 text_name number = codes "zone-" ++ decimal number
 
+-- the name of the file of a number with a journal's torn end
+abbrev pub torn_name : ℕ → List ℕ
+torn_name number = codes "torn-" ++ decimal number
+
 -- a name is that of the zone text of a number, whose digits may begin with zeros
 abbrev pub IsTextName : List ℕ → ℕ → Type 0
 IsTextName name number = (digits : List ℕ) × (name ≡ codes "zone-" ++ digits) × IsNumeral 10 digits × (digits_value 10 digits ≡ number) × (number < 2 ^ 64)

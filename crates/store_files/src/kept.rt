@@ -1,9 +1,9 @@
 //! The other files in a store's directory (own).
-ghost use Rattle.std.specs.Prelude.{◌≢◌, ◌↔◌, IsTrue, ℕ, [], MatchOption};
-ghost use Rattle.store_files.specs.Names.{IsTextName, IsLaid, IsLeftOver};
+ghost use Rattle.std.specs.Prelude.{◌≡◌, ◌≢◌, ◌↔◌, IsTrue, ℕ, [], IfOk, MatchOption, string_bytes};
+ghost use Rattle.store_files.specs.Names.{IsTextName, IsLaid, IsLeftOver, path_of as path_in, torn_name};
 
 use crate::files::{read_there, sync_folder, write_synced};
-use crate::names::{NEW_JOURNAL, NEW_TORN, path_of};
+use crate::names::{NEW_JOURNAL, NEW_TORN, path_of, torn_path};
 use std::alloc::Global;
 use std::fs::{self, File, Files};
 use std::io::{self, ErrorKind};
@@ -18,9 +18,10 @@ pub fn keep_torn<R: Files<File = File>>(
     octets: &[u8],
 ) -> io::Result<String>
     requires some { octets.now ≢ [] }
+    ensures named { IfOk result (λ path. (number : ℕ) × (string_bytes path ≡ path_in dir.now (torn_name number))) }
 {
     for number in 1..=u64::MAX {
-        let path = format!(in alloc; "{dir}/torn-{number}")?;
+        let path = torn_path(alloc, dir, number)?;
         match kept_at(rt, alloc, &path, octets)? {
             KeptThere::Others => {}
             KeptThere::These => return Ok(path),

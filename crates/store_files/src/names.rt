@@ -1,6 +1,6 @@
 //! The names of a store's files (own).
 ghost use Rattle.std.specs.Prelude.{◌≡◌, ◌++◌, string_bytes, IfOk};
-ghost use Rattle.store_files.specs.Names.{path_of, text_name};
+ghost use Rattle.store_files.specs.Names.{path_of, text_name, torn_name};
 
 use std::alloc::{AllocError, Global};
 
@@ -31,4 +31,11 @@ pub(crate) fn text_path(alloc: Global, dir: &str, number: u64) -> Result<String,
     ensures { IfOk result (λ path. string_bytes path ≡ path_of dir.now (text_name number)) }
 {
     format!(in alloc; "{dir}/zone-{number}")
+}
+
+/// The path of the file of a number with a journal's torn end. It allocates memory.
+pub(crate) fn torn_path(alloc: Global, dir: &str, number: u64) -> Result<String, AllocError>
+    ensures { IfOk result (λ path. string_bytes path ≡ path_of dir.now (torn_name number)) }
+{
+    format!(in alloc; "{dir}/torn-{number}")
 }

@@ -1,6 +1,8 @@
 //! Writing a zone text and a journal that replace those before them (own).
-ghost use Rattle.std.specs.Prelude.{◌≡◌, ◌≢◌, [], ◌∷◌, IfOk};
+ghost use Rattle.std.specs.Prelude.{◌≡◌, ◌≢◌, [], ◌∷◌, Err, IfOk, IfErr};
+ghost use Rattle.store_files.specs.declared.pair.PairFault.TheVariants.{Before};
 ghost use Rattle.store_files.specs.File.{written, synced, history};
+ghost use Rattle.store_files.specs.Placed.{IsUnknown};
 
 use crate::file::FileDisk;
 use crate::files::sync_folder;
@@ -35,14 +37,8 @@ pub fn begin_pair<R: Files<File = File>>(
         Ok(paths) => paths,
         Err(fault) => return Err(PairFault::Before(fault)),
     };
-    let mut disk = match lay_first(rt, alloc, dir, &paths, text, journal) {
-        Ok(disk) => disk,
-        Err(fault) => return Err(PairFault::Before(fault)),
-    };
-    match put_in_place(rt, dir, &paths, &mut disk) {
-        Ok(()) => Ok(disk),
-        Err(fault) => Err(PairFault::Unknown(fault)),
-    }
+    let laid = lay_first(rt, alloc, dir, &paths, text, journal);
+    put_laid(rt, dir, &paths, laid)
 }
 
 /// Syncs a journal and its name to the disk, and then the first zone text, which it names. It allocates memory.
@@ -142,14 +138,8 @@ pub fn replace_journal<R: Files<File = File>>(
         Ok(paths) => paths,
         Err(fault) => return Err(PairFault::Before(fault)),
     };
-    let mut disk = match lay_journal(rt, &paths, journal) {
-        Ok(disk) => disk,
-        Err(fault) => return Err(PairFault::Before(fault)),
-    };
-    match put_in_place(rt, dir, &paths, &mut disk) {
-        Ok(()) => Ok(disk),
-        Err(fault) => Err(PairFault::Unknown(fault)),
-    }
+    let laid = lay_journal(rt, &paths, journal);
+    put_laid(rt, dir, &paths, laid)
 }
 
 /// Whether the journal in a directory is this very file: false where the directory has no journal, or another one, because this one was moved, removed or replaced. It
@@ -193,6 +183,27 @@ fn lay_journal<R: Files<File = File>>(rt: &R, paths: &Paths, journal: &[u8]) -> 
     disk.append(journal)?;
     disk.sync()?;
     Ok(disk)
+}
+
+/// Makes a journal the store's, if it is laid. Where it isn't, the store has the journal that it had before; at a later error it is unknown which of the two is there after a crash.
+fn put_laid<R: Files>(
+    rt: &R,
+    dir: &str,
+    paths: &Paths,
+    laid: io::Result<FileDisk>,
+) -> Result<FileDisk, PairFault>
+    ensures same { IfOk result (λ disk. IfOk laid (λ before. (written disk ≡ written before) × (synced disk ≡ synced before) × (history disk ≡ synced before ∷ []))) }
+    ensures before { IfErr laid (λ fault. result ≡ Err (Before fault)) }
+    ensures unknown { IfOk laid (λ disk. IfErr result IsUnknown) }
+{
+    let mut disk = match laid {
+        Ok(disk) => disk,
+        Err(fault) => return Err(PairFault::Before(fault)),
+    };
+    match put_in_place(rt, dir, paths, &mut disk) {
+        Ok(()) => Ok(disk),
+        Err(fault) => Err(PairFault::Unknown(fault)),
+    }
 }
 
 /// Makes a journal the store's: renames it, and syncs its name to the disk.

@@ -3,6 +3,7 @@ ghost use Rattle.std.specs.Prelude.{◌≡◌, ◌↔◌, IsTrue, ℕ, MatchOpti
 ghost use Rattle.journal.specs.Head.{IsHeadFault};
 ghost use Rattle.journal.specs.declared.heads.HeadFault.{HeadFault};
 ghost use Rattle.store_files.specs.Names.{Names};
+ghost use Rattle.store_files.specs.Read.{IsTextOf};
 ghost use Rattle.store_files.specs.Still.{IsInFront, StandsStill};
 
 use crate::files::read_there;
@@ -40,7 +41,9 @@ pub(crate) fn read_text<R: Files>(
     alloc: Global,
     dir: &str,
     journal: &[u8],
-) -> io::Result<Text> {
+) -> io::Result<Text>
+    ensures named { IfOk result (λ text. IsTextOf journal.now text) }
+{
     let Some(number) = number_in(journal) else {
         return Ok(Text::There(Vec::new(alloc)));
     };

@@ -1,3 +1,4 @@
+pub mod Failures
 pub mod Private
 pub mod Opened
 pub mod Served

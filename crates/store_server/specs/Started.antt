@@ -1,5 +1,5 @@
 -- What a server begins with (own).
-use Rattle.std.specs.Prelude.{◌≡◌, ◌-◌, ◌∷◌, ⊤, ℕ, List, [], Option, Ok, Err, length, drop}
+use Rattle.std.specs.Prelude.{◌≡◌, ◌-◌, ◌≤◌, ◌∷◌, ⊤, ℕ, List, [], Option, None, Ok, Err, length, drop}
 use Rattle.dns_name.specs.Name.{Name}
 use Rattle.dns_rdata.specs.Record.{Record}
 use Rattle.zone_tree.specs.Zone.{apex_of}
@@ -19,7 +19,9 @@ use Rattle.store_recovery.specs.Replay.{first_version}
 use Rattle.store_recovery.specs.Rebased.{versions_in, rebased}
 use Rattle.store_recovery.specs.Start.{IsStarted, IsSound, IsStartFault}
 use Rattle.store_files.specs.declared.open.OpenedFolder.{OpenedFolder}
-use Rattle.store_files.specs.declared.open.OpenedFolder.TheVariants.{Empty, Found}
+use Rattle.store_files.specs.declared.open.OpenedFolder.TheVariants.{Locked, Empty, NoJournal as IsLost, NoText as LacksText, Found}
+use Rattle.store_recovery.specs.declared.start.Ending.{Ending}
+use Rattle.store_recovery.specs.declared.start.Ending.TheVariants.{Torn}
 use Rattle.store_recovery.specs.declared.choices.Take.{Take}
 use Rattle.store_recovery.specs.declared.choices.Choice.{Choice}
 use Rattle.store_recovery.specs.declared.choices.Choice.TheVariants.{Same as IsSame, Store as IsStore, Zone as IsZone, StoreThoughOther as IsOlder, RefuseNewer, RefuseOtherApex}
@@ -171,3 +173,47 @@ IsRefused given origin taken (OtherApex has other) =
 IsRefused given origin taken (Text fault) = zone_of_text origin given ≡ Err fault
 IsRefused given origin taken NoMemory = ⊤
 IsRefused given origin taken (Device fault) = ⊤
+
+-- a store that was found, with its zone file and its journal, isn't changed to the zone of the zone file, which is chosen
+abbrev pub IsRefusedZoneOf : List ℕ → List ℕ → List ℕ → Name → Option Take → Refusal → Type 0
+IsRefusedZoneOf text octets given origin taken refusal = (zone : List Record) × (is : IsChosen given origin taken text octets (IsZone zone))
+    × IsNotTaken is.start.newest.last.zone zone refusal
+
+-- the reasons why nothing is served of a store that was found, with its zone file and its journal
+abbrev pub IsRefusedOf : List ℕ → List ℕ → List ℕ → Name → Option Take → Refusal → Type 0
+IsRefusedOf text octets given origin taken Held = ⊥
+IsRefusedOf text octets given origin taken (NoJournal number) = ⊥
+IsRefusedOf text octets given origin taken (NoText number) = ⊥
+IsRefusedOf text octets given origin taken (NoStart fault) = IsStartFault text octets fault
+IsRefusedOf text octets given origin taken (Newer has serial) =
+    (is : IsChosen given origin taken text octets (RefuseNewer serial)) × (has.0 ≡ zone_serial is.start.newest.last.zone)
+IsRefusedOf text octets given origin taken (NoChange fault) = IsRefusedZoneOf text octets given origin taken (NoChange fault)
+IsRefusedOf text octets given origin taken TooLarge = IsRefusedZoneOf text octets given origin taken TooLarge
+IsRefusedOf text octets given origin taken (OtherApex has other) =
+    (is : IsChosen given origin taken text octets (RefuseOtherApex other)) × (has ≡ apex_of is.start.newest.last.zone)
+IsRefusedOf text octets given origin taken (Text fault) = zone_of_text origin given ≡ Err fault
+IsRefusedOf text octets given origin taken NoMemory = ⊤
+IsRefusedOf text octets given origin taken (Device fault) = ⊤
+
+-- the reasons why nothing is served, by what the directory has: another process holds it; its journal, or the zone file that this names, is not there; the zone file is not a
+-- valid zone, where there is no store; or what is said of the store that was found
+abbrev pub IsRefusedBy : List ℕ → Name → Option Take → OpenedFolder → Refusal → Type 0
+IsRefusedBy given origin taken Locked refusal = refusal ≡ Held
+IsRefusedBy given origin taken (IsLost number) refusal = refusal ≡ NoJournal number
+IsRefusedBy given origin taken (LacksText number) refusal = refusal ≡ NoText number
+IsRefusedBy given origin taken (Empty lock) refusal = IsNoText given origin refusal
+IsRefusedBy given origin taken (Found lock pair) refusal = IsRefusedOf pair.text.items pair.journal.items given origin taken refusal
+
+-- a path is told of the file that keeps the torn end of a journal of so many octets, if there is such an end
+abbrev pub IsEndKept : {P : Type 0} → ℕ → Ending → Option P → Type 0
+IsEndKept len (Torn end) torn = torn ≡ None → len ≤ end
+IsEndKept len _ torn = torn ≡ None
+
+-- so of a store that was found, with its zone file and its journal
+abbrev pub IsEndKeptOf : {P : Type 0} → List ℕ → List ℕ → Option P → Type 0
+IsEndKeptOf text octets torn = (start : Recovery) × IsStarted text octets start × IsEndKept (length octets) start.ending torn
+
+-- so by what the directory has
+abbrev pub IsEndKeptBy : {P : Type 0} → OpenedFolder → Option P → Type 0
+IsEndKeptBy (Found lock pair) torn = IsEndKeptOf pair.text.items pair.journal.items torn
+IsEndKeptBy _ torn = torn ≡ None

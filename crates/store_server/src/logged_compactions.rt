@@ -1,4 +1,7 @@
 //! Logging of a store's events (own).
+ghost use Rattle.std.specs.Prelude.{◌≡◌, None};
+ghost use Rattle.store_server.specs.Failures.{failure_of};
+
 use crate::event::{StoreEvent, StoreLog};
 use std::io::ErrorKind;
 use std::sync::Wait;
@@ -18,13 +21,17 @@ impl<'a, L> Drop for LoggedCompactions<'a, L> {
 
 impl<'a, L> LoggedCompactions<'a, L> {
     /// One that writes to a log.
-    pub fn new(log: &'a L) -> LoggedCompactions<'a, L> {
+    pub fn new(log: &'a L) -> LoggedCompactions<'a, L>
+        ensures { result.logged ≡ None }
+    {
         LoggedCompactions { log, logged: None }
     }
 }
 
 /// The reason why a compaction failed, if it did.
-fn failure_of(event: &CompactionEvent) -> Option<ErrorKind> {
+fn failure_of(event: &CompactionEvent) -> Option<ErrorKind>
+    ensures { result ≡ failure_of event.now }
+{
     match event {
         CompactionEvent::NoText(fault)
         | CompactionEvent::NotReplaced(fault)

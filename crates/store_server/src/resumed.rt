@@ -31,6 +31,8 @@ pub fn resume_store<R: Wait>(
     ensures served { IfOk result (λ r. IsFirst r.0.zone r.0 × AreNext r.0 r.1.items) }
     ensures writes { IfOk result (λ r. WritesOn r.0 r.1.items r.2) }
     ensures keep { IfOk result (λ r. (trail_in r.2).keep ≡ min keep KEPT) }
+    ensures trail { IfOk result (λ r. (steps : List VersionUpdate) × (versions_in steps ≡ store.later.items) × (updates_of steps ≡ store.updates.items)
+        × (trail_in r.2 ≡ followed (record { oldest = store.first; steps = []; keep = min keep KEPT }) steps)) }
 {
     let OpenStore {
         head,

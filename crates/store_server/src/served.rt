@@ -32,7 +32,8 @@ impl<'a, S: Drop, L> Drop for LoggedStore<'a, S, L> {
 impl<'a, S, L> LoggedStore<'a, S, L> {
     /// A store that writes to a log, and shows other threads by `state` whether it fails.
     pub fn new(store: S, log: &'a L, state: SharedStoreState) -> LoggedStore<'a, S, L>
-        ensures { result.store ≡ store }
+        ensures store { result.store ≡ store }
+        ensures fresh { result.failing ≡ false }
     {
         LoggedStore {
             store,

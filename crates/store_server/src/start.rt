@@ -5,7 +5,7 @@ ghost use Rattle.zone_tree.specs.Zone.{apex_of};
 ghost use Rattle.store_files.specs.File.{written};
 ghost use Rattle.store_recovery.specs.Start.{IsStarted};
 ghost use Rattle.store_recovery.specs.Choice.{IsChoice};
-ghost use Rattle.store_server.specs.Started.{AreLastUpdates, GoesOn, IsOfFolder, IsOwnFault, IsNoText, IsNotTaken, IsServed, IsServedOf, IsRefused, IsTakenAs};
+ghost use Rattle.store_server.specs.Started.{AreLastUpdates, GoesOn, IsOfFolder, IsOwnFault, IsNoText, IsNotTaken, IsServed, IsServedOf, IsRefused, IsRefusedBy, IsRefusedOf, IsTakenAs, IsEndKept, IsEndKeptBy, IsEndKeptOf};
 ghost use Rattle.store_files.specs.Store.{IsAsNoted};
 ghost use Rattle.store_server.specs.Private.{IsNotAgain, of_again};
 
@@ -93,7 +93,9 @@ fn start_opened<R: Files<File = File> + Alloc + Clone + Drop>(
     requires noted { IsAsNoted opened }
     ensures served { IfOk result (λ started. IsServed given.entry.text.now given.entry.origin.now given.entry.taken random started) }
     ensures found { IfOk result (λ started. IsOfFolder given.entry.text.now given.entry.origin.now given.entry.taken random opened started) }
+    ensures torn { IfOk result (λ started. IsEndKeptBy opened started.torn) }
     ensures refused { IfErr result (λ refusal. IsRefused given.entry.text.now given.entry.origin.now given.entry.taken refusal) }
+    ensures why { IfErr result (λ refusal. IsRefusedBy given.entry.text.now given.entry.origin.now given.entry.taken opened refusal) }
 {
     match opened {
         OpenedFolder::Locked => Err(Refusal::Held),
@@ -125,7 +127,8 @@ fn start_found<R: Files<File = File> + Alloc + Clone + Drop>(
 ) -> Result<Started, Refusal>
     requires noted { written pair.disk ≡ pair.journal.items }
     ensures served { IfOk result (λ started. IsServedOf pair.text.items pair.journal.items given.entry.text.now given.entry.origin.now given.entry.taken random started.store started.served) }
-    ensures refused { IfErr result (λ refusal. IsRefused given.entry.text.now given.entry.origin.now given.entry.taken refusal) }
+    ensures torn { IfOk result (λ started. IsEndKeptOf pair.text.items pair.journal.items started.torn) }
+    ensures refused { IfErr result (λ refusal. IsRefusedOf pair.text.items pair.journal.items given.entry.text.now given.entry.origin.now given.entry.taken refusal) }
 {
     let (start, updates) = start_with_updates(alloc, &pair.text, &pair.journal)?;
     match choice_of(alloc, &start, given)? {
@@ -186,6 +189,7 @@ fn go_on<R: Files<File = File> + Alloc + Clone + Drop>(
     requires updates { AreLastUpdates pair.text.items pair.journal.items (length start.newest.older.items) updates.items }
     ensures store { IfOk result (λ started. GoesOn pair.text.items pair.journal.items start started.store) }
     ensures served { IfOk result (λ started. started.served ≡ served) }
+    ensures torn { IfOk result (λ started. IsEndKept (length pair.journal.items) start.ending started.torn) }
     ensures refused { IfErr result IsOwnFault }
 {
     let torn = keep_end(rt, alloc, dir, &pair.journal, start.ending)?;
@@ -215,6 +219,7 @@ fn take_text<R: Files<File = File> + Alloc + Clone + Drop>(
     requires started { IsStarted pair.text.items pair.journal.items start.now }
     requires apex { is_same (apex_of zone.now) (apex_of start.now.newest.last.zone) ≡ true }
     ensures served { IfOk result (λ started. IsTakenAs pair.text.items pair.journal.items start.now zone.now given.entry.text.now random started.store started.served) }
+    ensures torn { IfOk result (λ started. IsEndKept (length pair.journal.items) start.now.ending started.torn) }
     ensures refused { IfErr result (λ refusal. IsNotTaken start.now.newest.last.zone zone.now refusal) }
 {
     // From here on it is known that the records of both are a zone.
@@ -270,7 +275,7 @@ fn refusal_again(fault: StartFault) -> Refusal
     }
 }
 
-/// Copies what follows a journal's last batch to a file, if it is torn, and gives the file's path.
+/// Copies what follows a journal's last batch to a file, if it is torn, and gives the file's path; None where nothing follows, or only zeros.
 fn keep_end<R: Files<File = File>>(
     rt: &R,
     alloc: Global,
@@ -278,7 +283,8 @@ fn keep_end<R: Files<File = File>>(
     journal: &[u8],
     ending: Ending,
 ) -> Result<Option<String>, Refusal>
-    ensures { IfErr result IsOwnFault }
+    ensures kept { IfOk result (λ torn. IsEndKept (length journal.now) ending torn) }
+    ensures refused { IfErr result IsOwnFault }
 {
     match ending {
         Ending::Torn(end) => match torn_end(journal, end) {

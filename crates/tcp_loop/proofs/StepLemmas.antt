@@ -18,7 +18,7 @@ use Rattle.tcp_connections.specs.declared.limits.Limits.{Limits}
 use Rattle.tcp_connections.specs.declared.connection.Connection.{Connection}
 use Rattle.tcp_connections.proofs.OwnLemmas.{own_same}
 use Rattle.tcp_connections.proofs.AskedLemmas.{each_itself}
-use Rattle.tcp_loop.specs.Steps.{scarce, HasBegun, Move, begins, gives, rests, Moves, stay, move, Sweeps, Serves, GoOn, HasTurned}
+use Rattle.tcp_loop.specs.Steps.{scarce, HasBegun, Move, begins, gives, rests, Moves, stay, move, IsSwept, Sweeps, Serves, GoOn, HasTurned}
 
 module _ {S M : Type 0} (origin : S → SocketAddr) (octets : S → Option (List ℕ × List ℕ)) (now : ℕ) where
   pub moves_more : (a b c : Slab (Connection S M)) → Moves origin octets now a b → Moves origin octets now b c → Moves origin octets now a c
@@ -65,9 +65,12 @@ module _ {S M : Type 0} (origin : S → SocketAddr) (octets : S → Option (List
   moves_put (Err fault) from stream old new connection vacant updates failed is come reported kept begun group window = moves_wider old new new.capacity failed
 
   -- those that are over go, by limits that are the given ones or those where places are scarce
+  pub swept_over : (limits used : Limits) (old new : Slab (Connection S M)) → (used ≡ limits) ⊎ (used ≡ scarce limits) → ((key : ℕ) → get new key ≡ kept_at used now (get old key)) → IsSwept limits now old new
+  swept_over limits used old new (inl same) swept = inl (subst (λ (l : Limits). (key : ℕ) → get new key ≡ kept_at l now (get old key)) same swept)
+  swept_over limits used old new (inr same) swept = inr (subst (λ (l : Limits). (key : ℕ) → get new key ≡ kept_at l now (get old key)) same swept)
+
   pub sweeps_over : (limits used : Limits) (old new : Slab (Connection S M)) → (used ≡ limits) ⊎ (used ≡ scarce limits) → ((key : ℕ) → get new key ≡ kept_at used now (get old key)) → Sweeps origin octets limits now old new
-  sweeps_over limits used old new (inl same) swept = inr (inl (subst (λ (l : Limits). (key : ℕ) → get new key ≡ kept_at l now (get old key)) same swept))
-  sweeps_over limits used old new (inr same) swept = inr (inr (subst (λ (l : Limits). (key : ℕ) → get new key ≡ kept_at l now (get old key)) same swept))
+  sweeps_over limits used old new either swept = inr (swept_over limits used old new either swept)
 
   module _ (would_block : S → Type 0) (is_later : SocketAddr → List ℕ → Type 0) where
     kept_if : (connection : Connection S M) (over slow : Bool) → HasStopped would_block is_later (Some connection) → HasStopped would_block is_later (if over then None else if slow then None else Some (gone_on now connection))

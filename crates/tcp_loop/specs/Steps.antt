@@ -34,6 +34,10 @@ nothing_counted = record {
 abbrev pub GoOn : {S M : Type 0} → (S → Type 0) → (SocketAddr → List ℕ → Type 0) → Slab (Connection S M) → List ℕ → List ℕ → Type 0
 GoOn would_block is_later connections keys next = All (λ key. Contains next key ⊎ HasStopped would_block is_later (get connections key)) keys
 
+-- places are given back at a time: by connections that are over by the limits, or by the limits when places are scarce
+abbrev pub IsSwept : {S M : Type 0} → Limits → ℕ → Slab (Connection S M) → Slab (Connection S M) → Type 0
+IsSwept limits now old new = ((key : ℕ) → get new key ≡ kept_at limits now (get old key)) ⊎ ((key : ℕ) → get new key ≡ kept_at (scarce limits) now (get old key))
+
 -- the address that a stream comes from, and what its octets are, as far as it reports them
 module _ {S M : Type 0} (origin : S → SocketAddr) (octets : S → Option (List ℕ × List ℕ)) where
   -- a connection has begun at a time: its peer's address is the one that its stream comes from, and nothing is kept of it
@@ -56,10 +60,9 @@ module _ {S M : Type 0} (origin : S → SocketAddr) (octets : S → Option (List
     stay : Moves now old old
     move : {between new : Slab (Connection S M)} → Moves now old between → Move now between new → Moves now old new
 
-  -- places are given back at a time: by connections that are over by the limits, or by the limits when places are scarce; or nothing
-  -- changes
+  -- places are given back at a time, or nothing changes
   abbrev pub Sweeps : Limits → ℕ → Slab (Connection S M) → Slab (Connection S M) → Type 0
-  Sweeps limits now old new = (new ≡ old) ⊎ ((key : ℕ) → get new key ≡ kept_at limits now (get old key)) ⊎ ((key : ℕ) → get new key ≡ kept_at (scarce limits) now (get old key))
+  Sweeps limits now old new = (new ≡ old) ⊎ IsSwept limits now old new
 
   -- what a reply is, by the address of the peer, the list of what is known to be published before it and that of what is known when it is made, the
   -- request, and the reply's messages

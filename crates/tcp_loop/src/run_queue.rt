@@ -1,4 +1,6 @@
 //! Keys that wait for their turn.
+ghost use Rattle.std.specs.Prelude.{◌↔◌, IfOk, IsTrue};
+ghost use Rattle.tcp_loop.specs.Tallies.{IsNew, NoneWaits};
 
 use std::alloc::{AllocError, Global};
 use std::mem;
@@ -30,7 +32,9 @@ impl Drop for RunQueue {
 
 impl RunQueue {
     /// No keys; each is to be below `most`.
-    pub(crate) fn new(alloc: Global, most: usize) -> Result<RunQueue, AllocError> {
+    pub(crate) fn new(alloc: Global, most: usize) -> Result<RunQueue, AllocError>
+        ensures { IfOk result (λ queue. IsNew most queue) }
+    {
         Ok(RunQueue {
             ready: Vec::with_capacity(alloc, most)?,
             others: Vec::with_capacity(alloc, most)?,
@@ -40,7 +44,9 @@ impl RunQueue {
     }
 
     /// Whether none waits.
-    pub(crate) fn is_empty(&self) -> bool {
+    pub(crate) fn is_empty(&self) -> bool
+        ensures { IsTrue result ↔ NoneWaits self.now }
+    {
         self.ready.is_empty() && self.others.is_empty() && self.after.is_empty()
     }
 

@@ -1,5 +1,5 @@
 //! A worker thread's connections, and its turns.
-ghost use Rattle.std.specs.Prelude.{◌≡◌, ◌<◌, ◌≤◌, ◌⊎◌, ◌-◌, ◌/◌, ℕ, List, length, replicate, true, false, None, IfOk, OnOk};
+ghost use Rattle.std.specs.Prelude.{◌≡◌, ◌<◌, ◌≤◌, ◌⊎◌, ◌-◌, ◌/◌, ℕ, List, length, replicate, true, false, None, IfOk, IfSome, OnOk};
 ghost use Rattle.dns_message.specs.Message.{message_limit};
 ghost use Rattle.requests.specs.Allowed.{IsReplyFrom, IsLaterFrom};
 ghost use Rattle.serve_core.specs.declared.transport.Transport.TheVariants.{Tcp};
@@ -7,7 +7,8 @@ ghost use Rattle.tcp_connections.specs.Asked.{EachGrows};
 ghost use Rattle.std.specs.Net.Socket.{socket_ip};
 ghost use Rattle.tcp_connections.specs.Group.{IsGroupOf};
 ghost use Rattle.slab.specs.Slab.{get, slab_len};
-ghost use Rattle.tcp_loop.specs.Steps.{scarce, nothing_counted, Moves, Sweeps, GoOn, HasTurned};
+ghost use Rattle.tcp_loop.specs.Steps.{scarce, nothing_counted, Moves, IsSwept, Sweeps, GoOn, HasTurned};
+ghost use Rattle.tcp_loop.specs.Tallies.{begun_once, evicted_once, no_room_once, turned_away_once, IsDue, IsNew};
 
 use crate::arrivals::{Arrivals, Refusal, Remote};
 use crate::readiness::{NotWatched, Readiness};
@@ -93,6 +94,8 @@ impl<S: Blocking + Remote + Drop, M: Messages> EventLoop<S, M> {
         ensures places { IfOk result (λ turns. turns.places ≡ places) }
         ensures may_come { IfOk result (λ turns. turns.may_come.items ≡ replicate arrivals true) }
         ensures open { IfOk result (λ turns. turns.shut_until ≡ 0) }
+        ensures queue { IfOk result (λ turns. IsNew places turns.run_queue) }
+        ensures swept { IfOk result (λ turns. turns.swept ≡ 0) }
         ensures tally { IfOk result (λ turns. turns.tally ≡ nothing_counted) }
     {
         Ok(EventLoop {
@@ -118,7 +121,10 @@ impl<S: Blocking + Remote + Drop, M: Messages> EventLoop<S, M> {
     }
 
     /// How long to wait at most: not at all if something could be done at once.
-    fn patience(&self) -> u64 {
+    fn patience(&self) -> u64
+        ensures due { IsDue self.now.run_queue self.now.may_come.items self.now.shut_until → result ≡ 0 }
+        ensures rests { (IsDue self.now.run_queue self.now.may_come.items self.now.shut_until → ⊥) → result ≡ 1_000_000_000 }
+    {
         if !self.run_queue.is_empty() {
             return 0;
         }
@@ -145,6 +151,9 @@ impl<S: Blocking + Remote + Drop, M: Messages> EventLoop<S, M> {
         ensures room { result ≡ true → slab_len self.old.connections ≤ self.old.places → slab_len self.new.connections < self.new.places }
         ensures none { result ≡ false → self.new.connections ≡ self.old.connections }
         ensures free { slab_len self.old.connections < self.old.places → self.new.connections ≡ self.old.connections }
+        ensures uncounted { slab_len self.old.connections < self.old.places → self.new.tally ≡ self.old.tally }
+        ensures evicted { result ≡ true → self.old.places ≤ slab_len self.old.connections → self.new.tally ≡ evicted_once self.old.tally }
+        ensures turned_away { result ≡ false → self.new.tally ≡ turned_away_once self.old.tally }
     {
         match make_room(&mut self.connections, self.places, newcomer) {
             Room::Free => true,
@@ -182,6 +191,8 @@ impl<S: Blocking + Remote + Drop, M: Messages> EventLoop<S, M> {
     fn note(&mut self, put: Option<usize>)
         ensures connections { self.new.connections ≡ self.old.connections }
         ensures places { self.new.places ≡ self.old.places }
+        ensures no_room { put ≡ None → self.new.tally ≡ no_room_once self.old.tally }
+        ensures begun { IfSome put (λ key. self.new.tally ≡ begun_once self.old.tally) }
     {
         let Some(key) = put else {
             self.tally.no_room = self.tally.no_room.saturating_add(1);
@@ -319,6 +330,7 @@ impl<S: Blocking + Remote + Drop, M: Messages> EventLoop<S, M> {
 
     /// Ends the connections that are over, once a second.
     fn sweep(&mut self, plan: Plan<'_>, now: u64)
+        ensures due { 1_000_000_000 ≤ now - self.old.swept → IsSwept plan.entry.limits now self.old.connections self.new.connections × (self.new.swept ≡ now) }
         ensures places { self.new.places ≡ self.old.places }
         ensures few { slab_len self.new.connections ≤ slab_len self.old.connections }
         ensures swept { Sweeps S.origin S.octets plan.entry.limits now self.old.connections self.new.connections }

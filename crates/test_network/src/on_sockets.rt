@@ -185,6 +185,21 @@ fn one_that_is_reset_ends_alone(rt: HostRuntime) -> Result<(), Fail> {
     Ok(())
 }
 
+#[test]
+fn a_client_has_the_rights_of_its_own_address(rt: HostRuntime) -> Result<(), Fail> {
+    let (mut running, address) = started(&rt, rt.alloc())?;
+    let mut client = TcpStream::connect(&rt, address)?;
+    client.write_all(&[0, 1, b'?'])?;
+    running.turn(&rt, 50)?;
+    client.set_nonblocking(true)?;
+    let mut reply = [1; 3];
+    let count = client.read(&mut reply)?;
+    assert_eq!(rt; count, 3);
+    // 127.0.0.1 may not transfer.
+    assert_eq!(rt; reply, [0, 1, 0]);
+    Ok(())
+}
+
 /// Whether a client's requests over sockets are answered. An error if a device fails or memory allocation fails.
 fn is_answered<R: Net<Listener = StdListener, Stream = TcpStream> + Clock + Wait>(
     rt: &R,

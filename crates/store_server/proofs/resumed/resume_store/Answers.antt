@@ -38,3 +38,16 @@ returns-clause-keep g c =
     let found = c.in_ok-trail.ensures in
     let begun : TrailState = record { oldest = c.in-Some.first; steps = []; keep = min c.args.keep KEPT } in
     ap (λ (t : TrailState). t.keep) (c.of.ensures.trail ∙ found.3) ∙ followed_keep begun found.0
+
+pub returns-clause-trail : goal.returns-clause-trail
+returns-clause-trail g c =
+    let store : OpenStore = c.args.store in
+    let keep : ℕ = min c.args.keep KEPT in
+    let first : c.in-Some.first ≡ store.first = c.in-Some.ensures in
+    let later : c.in_ok-later.later.items ≡ store.later.items = c.in_ok-later.ensures in
+    let found = c.in_ok-trail.ensures in (
+      found.0,
+      found.1 ∙ (c.deref.ensures.value ∙ later),
+      found.2 ∙ c.deref-2.ensures.value,
+      c.of.ensures.trail ∙ (found.3 ∙ ap (λ (f : Version). followed (record { oldest = f; steps = []; keep = keep }) found.0) first),
+    )

@@ -13,10 +13,10 @@ use Rattle.signed_replies.proofs.datagrams.SignedDatagrams.answer_by.Goals as go
 pub returns-in-Unsigned-clause-reply : goal.returns-in-Unsigned-clause-reply
 returns-in-Unsigned-clause-reply g c =
     let seen = g.A.Handler.seen c.args.self.now.inner in
-    let later = g.A.Handler.seen c.answer_as.new.inner in
-    IfOk-weaker c.answer_as.result _ _
-    (λ len is. told_then g.K.KeyRing.keys g.K.KeyRing.rights g.A.Handler.is_reply AreSignedAlone c.args.verified Unsigned c.args.now (by_datagram c.args.self.now.peer) seen later c.args.request.now (messages_in len c.answer_as.new.out) c.in-Unsigned.is is)
-    c.answer_as.ensures.reply
+    let later = g.A.Handler.seen c.answer_with.new.inner in
+    IfOk-weaker c.answer_with.result _ _
+    (λ len is. told_then g.K.KeyRing.keys g.K.KeyRing.rights g.A.Handler.is_reply AreSignedAlone c.args.verified Unsigned c.args.now (by_datagram c.args.self.now.peer) seen later c.args.request.now (messages_in len c.answer_with.new.out) c.in-Unsigned.is is)
+    c.answer_with.ensures.reply
 
 pub returns-in-Silent-clause-reply : goal.returns-in-Silent-clause-reply
 returns-in-Silent-clause-reply g c =

@@ -47,10 +47,10 @@ returns-in_default-2-clause-reply g c =
     let peer = by_datagram c.args.self.now.peer in
     let plain = c.plain-plain.result.now in
     let own = c.in-Ok.peer in
-    let later = g.A.Handler.seen c.answer_as.new.inner in
+    let later = g.A.Handler.seen c.answer_with.new.inner in
     let there = ap (λ l. slice_get l c.args.tsig.key) (sym c.keys.ensures) ∙ sym c.get.ensures ∙ ap option_copied c.in-Some.is in
     let made = c.in_ok-len.ensures.reply in
-    let none = subst (λ o. g.A.Handler.is_reply (by_datagram own) made.0 later plain (messages_in o c.answer_as.new.out)) c.in_default-2.is made.3 in (
+    let none = subst (λ o. g.A.Handler.is_reply (by_datagram own) made.0 later plain (messages_in o c.answer_with.new.out)) c.in_default-2.is made.3 in (
       made.0,
       made.1,
       made.2,
@@ -63,12 +63,12 @@ returns-clause-reply g c =
     let peer = by_datagram c.args.self.now.peer in
     let plain = c.plain-plain.result.now in
     let own = c.in-Ok.peer in
-    let later = g.A.Handler.seen c.answer_as.new.inner in
+    let later = g.A.Handler.seen c.answer_with.new.inner in
     let there = ap (λ l. slice_get l c.args.tsig.key) (sym c.keys.ensures) ∙ sym c.get.ensures ∙ ap option_copied c.in-Some.is in
     let made = c.in_ok-len.ensures.reply in
-    let bare = take c.in-Some-2.len c.answer_as.new.out in
+    let bare = take c.in-Some-2.len c.answer_with.new.out in
     let sent = take c.sign_reply-2.result c.sign_reply-2.new.out in
-    let reply = subst (λ o. g.A.Handler.is_reply (by_datagram own) made.0 later plain (messages_in o c.answer_as.new.out)) c.in-Some-2.is made.3 in (
+    let reply = subst (λ o. g.A.Handler.is_reply (by_datagram own) made.0 later plain (messages_in o c.answer_with.new.out)) c.in-Some-2.is made.3 in (
       made.0,
       made.1,
       made.2,
