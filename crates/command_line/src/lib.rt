@@ -24,7 +24,6 @@ pub use fault::{BAD_COMMAND, CommandFault, tell_fault};
 pub use key_rules::KeyRules;
 pub use may::Trial;
 pub use options::{MAX_THREADS, Serve};
-pub use program::VERSION;
 pub use secondaries::{Secondary, is_routed, source_of};
 pub use start_fault::PrintedFault;
 pub use store_options::StorePlan;

@@ -10,13 +10,11 @@ use crate::options::{
 use crate::secondaries::NOTIFY;
 use crate::store_options::{JOURNAL, STORE, TAKE, TRANSFER_RATE, UDP_BUFFER, UPDATE_QUEUE};
 use clap::{Arg, ArgAction, Command as Parser};
+use metric_families::VERSION;
 use std::alloc::{AllocError, Global};
 
 /// The program's name.
 const PROGRAM: &str = "dnsd";
-
-/// The program's version, which `--version` prints after its name.
-pub const VERSION: &str = "0.1.0";
 
 /// The form of an argument. Help shows the first text as the name of its value.
 #[derive(Clone, Copy)]

@@ -13,6 +13,6 @@ mod times;
 pub use counted::counter_families;
 pub use process::{ProcessFacts, process_families};
 pub use server::{
-    Drops, Facts, SecondaryFacts, StoreFacts, drop_families, secondary_families, server_families,
-    store_families,
+    Drops, Facts, SecondaryFacts, StoreFacts, VERSION, drop_families, secondary_families,
+    server_families, store_families,
 };

@@ -9,6 +9,9 @@ use metrics_text::Family;
 use std::alloc::{AllocError, Global};
 use std::marker::Model;
 
+/// The program's version, as `dnsd_build_info` has it and `--version` prints it.
+pub const VERSION: &str = "0.1.0";
+
 /// What is known of a server.
 #[derive(Clone, Copy)]
 pub struct Facts<'a> {

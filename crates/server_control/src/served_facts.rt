@@ -1,11 +1,10 @@
 //! What a server tells of itself, for Prometheus.
 use crate::process_files::ProcessFiles;
 use crate::udp_drops::UdpDrops;
-use command_line::VERSION;
 use counters::{Counters, ServerCounters};
 use metric_families::{
-    Drops, Facts, ProcessFacts, SecondaryFacts, StoreFacts, counter_families, drop_families,
-    process_families, secondary_families, server_families, store_families,
+    Drops, Facts, ProcessFacts, SecondaryFacts, StoreFacts, VERSION, counter_families,
+    drop_families, process_families, secondary_families, server_families, store_families,
 };
 use metrics_text::{Family, write_metrics};
 use std::alloc::{AllocError, Global};
