@@ -5,7 +5,7 @@
 # listens on 127.0.0.1 alone, and ends what it starts.
 # Usage: [DNSD=PROGRAM] tests/metrics.sh [--port N]
 #   --port N    dnsd listens on N (by default 15463), and for HTTP on the one behind it
-# It needs Debian's packages bind9-dnsutils, curl and python3, and the program that `make dnsd` builds.
+# It needs Debian's packages bind9-dnsutils, curl and python3, a C compiler, and the program that `make dnsd` builds.
 set -euo pipefail
 cd "$(dirname "$0")/.."
 program=${DNSD:-$PWD/crates/dnsd/out/dnsd}
@@ -369,6 +369,27 @@ check 'health with a log that is stuck' '503 text/plain; charset=utf-8 thread 5 
 timeout 1 cat <&8 >/dev/null || true
 check 'health once it is read' '200 text/plain; charset=utf-8 ok' "$(told "http://127.0.0.1:$((port + 3))/healthz") $(cat "$work/body")"
 exec 8<&-
+
+# A disk whose sync takes 13 seconds: after ten the update thread, thread 4 after the two of each worker, is stuck, and its batch, also one without an update that is kept, ends.
+unserve
+"${CC:-cc}" -O2 -shared -fPIC -o "$work/disk.so" tests/disk.c
+mkdir "$work/slow"
+serve "$zone" --store "$work/slow"
+unserve
+workers=2 LD_PRELOAD=$work/disk.so DISK_DIR=$work/slow DISK_SLOW=13000 serve "$zone" --metrics "$web" --store "$work/slow"
+{
+    printf 'server 127.0.0.1 %s\nzone example.test\nprereq yxdomain no.example.test\nupdate add u.example.test 300 A 192.0.2.1\nsend\n' "$port" | nsupdate >"$work/said" 2>&1
+} || true
+check 'an update whose prerequisite fails' 'update failed: NXDOMAIN' "$(cat "$work/said")"
+printf 'server 127.0.0.1 %s\nzone example.test\nupdate add u.example.test 300 A 192.0.2.1\nsend\n' "$port" | nsupdate -v -t 20 >"$work/said" 2>&1 &
+update=$!
+sleep 5
+check 'health beside a sync of five seconds' '200 text/plain; charset=utf-8 ok' "$(told "http://$web/healthz") $(cat "$work/body")"
+sleep 6.5
+check 'health with an update thread that is stuck' '503 text/plain; charset=utf-8 thread 4 is stuck' "$(told "http://$web/healthz") $(cat "$work/body")"
+wait "$update"
+check 'the update' '' "$(cat "$work/said")"
+check 'health after the sync' '200 text/plain; charset=utf-8 ok' "$(told "http://$web/healthz") $(cat "$work/body")"
 
 unserve
 serve "$zone"
