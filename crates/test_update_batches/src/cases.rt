@@ -1,5 +1,5 @@
 //! Cases of batches of updates, and what becomes of them (RFC 2136, 3).
-use crate::servers::ZONE;
+use crate::servers::{LAST_SERIAL, ZONE};
 use crate::store::Store;
 use crate::updates::{ADD_1, ADD_1_AGAIN, ADD_2, ADD_5, OUTSIDE, WITH_TTL, put};
 use crate::version_list::{Outcome, VersionList};
@@ -41,6 +41,8 @@ type Round = (&'static [&'static str], TurnEnd);
 pub(crate) struct Case {
     /// What it shows.
     pub name: &'static str,
+    /// The text of its zone.
+    zone: &'static str,
     /// The plan of the disk's calls; None if there is no store.
     plan: Option<&'static [u8]>,
     /// How many versions of each of its first batches find room.
@@ -58,6 +60,7 @@ pub(crate) struct Case {
 /// A batch of which two updates change the zone.
 pub(crate) const LASTING: Case = Case {
     name: "a batch lasts: each update is judged after the effect of those before it",
+    zone: ZONE,
     plan: Some(&[]),
     rooms: &[],
     rounds: &[(
@@ -80,6 +83,7 @@ pub(crate) const CASES: &[Case] = &[
     LASTING,
     Case {
         name: "updates for which a batch has no room wait for the next, but one is judged even if there is none",
+        zone: ZONE,
         plan: Some(&[]),
         rooms: &[2, 0, 0],
         rounds: &[
@@ -100,6 +104,7 @@ pub(crate) const CASES: &[Case] = &[
     // The append works, and the sync fails; the appended octets are cut off.
     Case {
         name: "a batch fails, and so do later ones, since it was the sync that failed",
+        zone: ZONE,
         plan: Some(&[1, 0]),
         rooms: &[],
         rounds: &[
@@ -118,6 +123,7 @@ pub(crate) const CASES: &[Case] = &[
     },
     Case {
         name: "what is queued when the queue is ended is judged, also if it is stored nowhere",
+        zone: ZONE,
         plan: None,
         rooms: &[2],
         rounds: &[(&[ADD_1, ADD_2, ADD_5], TurnEnd::Served)],
@@ -127,6 +133,19 @@ pub(crate) const CASES: &[Case] = &[
             (2, 5, 0, Some((9, 10))),
         ],
         published: (4, 10),
+        recovered: &[],
+    },
+    Case {
+        name: "after the last serial comes 0",
+        zone: LAST_SERIAL,
+        plan: None,
+        rooms: &[],
+        rounds: &[(&[ADD_1, ADD_2], TurnEnd::Judged)],
+        results: &[
+            (1, 1, 0, Some((4_294_967_295, 0))),
+            (1, 2, 0, Some((0, 1))),
+        ],
+        published: (3, 1),
         recovered: &[],
     },
 ];
@@ -182,16 +201,16 @@ pub(crate) struct Rest {
     pub recovered: Vec<u8>,
 }
 
-/// The first version of the tests' zone. None if memory allocation fails.
-fn first_version(alloc: Global) -> Option<SharedVersion> {
-    let zone = read_zone(alloc, ZONE.as_bytes(), &Name::root()).ok()?;
+/// The first version of the zone of a text. None if memory allocation fails.
+fn first_version(alloc: Global, text: &str) -> Option<SharedVersion> {
+    let zone = read_zone(alloc, text.as_bytes(), &Name::root()).ok()?;
     SharedVersion::new(alloc, Version::first(zone))
 }
 
 impl Case {
     /// Runs the rounds. None if there is no memory to begin them, or to look at what they leave.
     pub fn run<R: Wait>(&self, rt: &R, alloc: Global) -> Option<Rest> {
-        let first = first_version(alloc)?;
+        let first = first_version(alloc, self.zone)?;
         let store = match self.plan {
             Some(plan) => Store::journal(alloc, first.share(rt), plan)?,
             None => Store::Nowhere,

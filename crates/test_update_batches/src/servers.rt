@@ -11,6 +11,11 @@ pub(crate) const ZONE: &str = "example. 3600 IN SOA ns.example. host.example. 7 
 example. 3600 IN NS ns.example.
 ";
 
+/// The zone text with the last serial, after which comes 0 (RFC 1982, 3.1).
+pub(crate) const LAST_SERIAL: &str = "example. 3600 IN SOA ns.example. host.example. 4294967295 1 1 1 1
+example. 3600 IN NS ns.example.
+";
+
 /// The result where there is no server, with the publisher and the readers.
 pub(crate) fn not_played<Z: FirstZone, N: Naming>(
     publisher: VersionPublisher<Z, N>,
