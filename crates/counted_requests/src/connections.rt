@@ -99,7 +99,7 @@ impl<'a, M: Messages, A: Handler<M>, C: Clock> CountingConnections<'a, M, A, C> 
             self.counts.finish(request, self.from, came);
         }
         self.counts
-            .take(Transport::Tcp, family_of(self.from), request);
+            .take(Transport::Tcp, family_of(&self.from), request);
         match made {
             Reply::Later => Reply::Later,
             Reply::Silent => {

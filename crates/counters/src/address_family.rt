@@ -26,6 +26,7 @@ impl AddressFamily {
     }
 
     /// Its place among all.
+    #[inline(always)]
     pub fn index(self) -> usize
         ensures place { result ≡ address_family_index self }
         ensures within { result < 2 }

@@ -37,6 +37,7 @@ impl ConnectionEnd {
     }
 
     /// Its place among all.
+    #[inline(always)]
     pub fn index(self) -> usize
         ensures place { result ≡ connection_end_index self }
         ensures within { result < 4 }

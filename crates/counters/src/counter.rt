@@ -55,6 +55,7 @@ pub enum Counter {
 
 impl Counter {
     /// The place of its number.
+    #[inline(always)]
     pub fn index(self) -> usize
         ensures place { result ≡ counter_index self }
         ensures within { result < 82 }

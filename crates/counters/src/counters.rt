@@ -39,6 +39,7 @@ impl Counters {
     }
 
     /// One more of a counter: its number goes up by one, modulo 2^64, and no other does.
+    #[inline(always)]
     pub fn add(&mut self, counter: Counter)
         ensures all { self.new ≡ with_more counter 1 self.old }
         ensures counted { number_of counter self.new.numbers ≡ both (number_of counter self.old.numbers) 1 }
@@ -48,6 +49,7 @@ impl Counters {
     }
 
     /// So many more of a counter: its number goes up by that, modulo 2^64, and no other does.
+    #[inline(always)]
     pub fn add_many(&mut self, counter: Counter, more: u64)
         ensures all { self.new ≡ with_more counter more self.old }
         ensures counted { number_of counter self.new.numbers ≡ both (number_of counter self.old.numbers) more }

@@ -64,6 +64,7 @@ impl Opcode {
     }
 
     /// Its place among all.
+    #[inline(always)]
     pub fn index(self) -> usize
         ensures place { result ≡ opcode_index self }
         ensures within { result < 7 }

@@ -134,6 +134,7 @@ impl Qtype {
     }
 
     /// Its place among all.
+    #[inline(always)]
     pub fn index(self) -> usize
         ensures place { result ≡ qtype_index self }
         ensures within { result < 21 }

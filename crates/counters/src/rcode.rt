@@ -94,6 +94,7 @@ impl Rcode {
     }
 
     /// Its place among all.
+    #[inline(always)]
     pub fn index(self) -> usize
         ensures place { result ≡ rcode_index self }
         ensures within { result < 13 }

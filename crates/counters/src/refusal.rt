@@ -41,6 +41,7 @@ impl Refusal {
     }
 
     /// Its place among all.
+    #[inline(always)]
     pub fn index(self) -> usize
         ensures place { result ≡ refusal_index self }
         ensures within { result < 5 }

@@ -83,6 +83,7 @@ fn below(bounds: &[u64], nanoseconds: u64) -> usize
 }
 
 /// More at a place of numbers.
+#[inline(always)]
 pub(crate) fn add_at(numbers: &mut [u64], at: usize, more: u64)
     requires { at < length numbers.old }
     ensures { numbers.new ≡ more_at at more numbers.old }

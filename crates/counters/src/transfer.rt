@@ -54,6 +54,7 @@ impl Transfer {
     }
 
     /// Its place among all.
+    #[inline(always)]
     pub fn index(self) -> usize
         ensures place { result ≡ transfer_index self }
         ensures within { result < 6 }

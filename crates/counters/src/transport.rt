@@ -26,6 +26,7 @@ impl Transport {
     }
 
     /// Its place among all.
+    #[inline(always)]
     pub fn index(self) -> usize
         ensures place { result ≡ transport_index self }
         ensures within { result < 2 }

@@ -1,14 +1,14 @@
 //! What a request and a reply add to the counters.
-ghost use Rattle.std.specs.Prelude.{◌≡◌, ◌≢◌, ◌==◌, ◌++◌, length, Some, None, true, false, [], ◌∷◌};
+ghost use Rattle.std.specs.Prelude.{◌≡◌, ◌≢◌, ◌==◌, ◌++◌, length, Some, None, true, false, [], ◌∷◌, ◌<◌, IfSome};
 ghost use Rattle.counters.specs.Counters.{with_counts};
 ghost use Rattle.counters.specs.Rcodes.{rcode_of as rcode_named};
-ghost use Rattle.counters.specs.declared.counter.Counter.TheVariants.{Reply};
-ghost use Rattle.message_counts.specs.Places.{opcode_of, rcode_of};
-ghost use Rattle.message_counts.specs.Counts.{one, asked_counts, queried_type, request_counts, reply_counts, question_counts, transfer_asked, update_counts, truncated_counts};
+ghost use Rattle.counters.specs.declared.counter.Counter.TheVariants.{Question, Reply};
+ghost use Rattle.message_counts.specs.Places.{opcode_of, question_type, rcode_of};
+ghost use Rattle.message_counts.specs.Counts.{address_asked, address_type, one, asked_counts, queries_address, queried_type, request_counts, reply_counts, question_counts, transfer_asked, update_counts, truncated_counts};
 
 use crate::places::{
-    ANCOUNT, HEADER, NSCOUNT, is_truncated, low_code, number_at, opcode_of, question_type,
-    rcode_of, type_at_end,
+    ALONE, ANCOUNT, HEADER, WITH_ONE, counts_of, ends_with_opt, is_truncated, low_code, number_at,
+    opcode_of, pair_at, question_type, rcode_of,
 };
 use counters::{AddressFamily, Counter, Counters, Opcode, Qtype, Rcode, Transport};
 
@@ -24,6 +24,39 @@ const AAAA: u16 = 28;
 /// The OPCODE of updates (RFC 2136, 2.2).
 pub(crate) const UPDATE: u8 = 5;
 
+/// The type of an address that a number names.
+#[inline(always)]
+fn address_type(number: u16) -> Option<Qtype>
+    ensures { result ≡ address_type number }
+{
+    if number == A {
+        Some(Qtype::A)
+    } else if number == AAAA {
+        Some(Qtype::Aaaa)
+    } else {
+        None
+    }
+}
+
+/// The type by which a request's question asks for an address, where that stands at its end, alone or before an OPT without options.
+#[inline(always)]
+fn address_asked(request: &[u8]) -> Option<Qtype>
+    requires { 16 < length request.now }
+    ensures asked { result ≡ address_asked request.now }
+    ensures counted { IfSome result (λ qtype. question_counts (question_type request.now) ≡ one (Question qtype) ∷ []) }
+    ensures address { IfSome result (λ _. transfer_asked (question_type request.now) ≡ None) }
+{
+    let len = request.len();
+    let counts = counts_of(request);
+    if counts == ALONE {
+        return address_type(number_at(request, len - 4));
+    }
+    if counts == WITH_ONE && len > 27 && ends_with_opt(request) {
+        return address_type(number_at(request, len - 15));
+    }
+    None
+}
+
 /// Counts a request as [`count_request`] does, where it is a query for an address that asks for nothing else, as most are: whether it is one. Nothing is counted of any other.
 #[inline(always)]
 pub(crate) fn count_address_query(
@@ -35,22 +68,18 @@ pub(crate) fn count_address_query(
     ensures counted { result ≡ true → counters.new ≡ with_counts (request_counts transport family request.now) counters.old }
     ensures asked { result ≡ true → transfer_asked (queried_type request.now) ≡ None }
     ensures not { result ≡ false → counters.new ≡ counters.old }
+    ensures taken { result ≡ queries_address request.now }
 {
-    if opcode_of(request) != QUERY {
+    if request.len() <= 16 || opcode_of(request) != QUERY {
         return false;
     }
-    let number = type_at_end(request);
-    if number != A && number != AAAA {
+    let Some(qtype) = address_asked(request) else {
         return false;
-    }
+    };
     counters.add(Counter::Request(transport, family));
     counters.add(Counter::Opcode(Opcode::Query));
     counters.add_many(Counter::ReceivedOctets, request.len() as u64);
-    if number == A {
-        counters.add(Counter::Question(Qtype::A));
-    } else {
-        counters.add(Counter::Question(Qtype::Aaaa));
-    }
+    counters.add(Counter::Question(qtype));
     true
 }
 
@@ -124,7 +153,8 @@ pub(crate) fn count_plain_reply(counters: &mut Counters, reply: &[u8]) -> bool
     if reply.len() < HEADER || opcode_of(reply) != QUERY || is_truncated(reply) {
         return false;
     }
-    if number_at(reply, ANCOUNT) == 0 && number_at(reply, NSCOUNT) == 0 {
+    // both of ANCOUNT and NSCOUNT
+    if pair_at(reply, ANCOUNT) == 0 {
         return false;
     }
     match low_code(reply) {

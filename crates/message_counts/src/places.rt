@@ -1,6 +1,6 @@
 //! What octets say at their places.
 ghost use Rattle.std.specs.Prelude.{◌≡◌, ◌⊎◌, ◌<◌, ◌≤◌, ◌==◌, ◌^◌, ◌+◌, ◌*◌, ◌%◌, length, drop, slice_index, Some, IfSome};
-ghost use Rattle.message_counts.specs.Places.{octet_at, is_reply, opcode_of, is_truncated, number_at, name_end, first_name_end, pair_at, ends_with_opt, named_type, question_type, rcode_of, high_code, opt_code, opt_code_after};
+ghost use Rattle.message_counts.specs.Places.{asks_with, octet_at, is_reply, opcode_of, is_truncated, number_at, name_end, first_name_end, pair_at, ends_with_opt, named_type, question_type, rcode_of, high_code, opt_code, opt_code_after};
 
 /// Where a header counts its questions (RFC 1035, 4.1.1).
 pub(crate) const QDCOUNT: usize = 4;
@@ -14,10 +14,17 @@ pub(crate) const NSCOUNT: usize = 8;
 /// A count of 1, and then one of 0.
 const ONE: u32 = 65_536;
 
+/// The counts of a header, as [`counts_of`] has them, where a question stands alone.
+pub(crate) const ALONE: u64 = 281_474_976_710_656;
+
+/// The same where one additional record comes after the question.
+pub(crate) const WITH_ONE: u64 = 281_474_976_710_657;
+
 /// How many octets a header has (RFC 1035, 4.1.1).
 pub(crate) const HEADER: usize = 12;
 
 /// The octet at a position; 0 after the last.
+#[inline(always)]
 fn octet_at(octets: &[u8], at: usize) -> u8
     ensures { result ≡ octet_at octets.now at }
 {
@@ -58,6 +65,7 @@ pub fn opcode_of(octets: &[u8]) -> u8
 }
 
 /// Whether a message is truncated: TC (RFC 1035, 4.1.1).
+#[inline(always)]
 pub fn is_truncated(octets: &[u8]) -> bool
     ensures { result ≡ is_truncated octets.now }
 {
@@ -96,15 +104,25 @@ pub(crate) fn first_name_end(octets: &[u8]) -> Option<usize>
 
 /// Two numbers of 16 bits, one after the other, as one of 32 bits.
 #[inline(always)]
-fn pair_at(octets: &[u8], at: usize) -> u32
+pub(crate) fn pair_at(octets: &[u8], at: usize) -> u32
     requires { at < 2 ^ 63 + 14 }
     ensures { result ≡ pair_at octets.now at }
 {
     65_536 * u32::from(number_at(octets, at)) + u32::from(number_at(octets, at + 2))
 }
 
+/// The four counts of a header, one after the other, as one number (RFC 1035, 4.1.1).
+#[inline(always)]
+pub(crate) fn counts_of(octets: &[u8]) -> u64
+    ensures alone { (result == 281474976710656) ≡ asks_with 0 octets.now }
+    ensures with_one { (result == 281474976710657) ≡ asks_with 1 octets.now }
+{
+    4_294_967_296 * u64::from(pair_at(octets, QDCOUNT)) + u64::from(pair_at(octets, NSCOUNT))
+}
+
 /// Whether a message's last octets are an OPT without options: the root, type 41, class and TTL, and RDLENGTH 0 (RFC 6891, 6.1.2).
-fn ends_with_opt(octets: &[u8]) -> bool
+#[inline(always)]
+pub(crate) fn ends_with_opt(octets: &[u8]) -> bool
     requires { 27 < length octets.now }
     ensures { result ≡ ends_with_opt octets.now }
 {
@@ -147,28 +165,6 @@ pub fn question_type(octets: &[u8]) -> Option<u16>
         return Some(number_at(octets, len - 15));
     }
     named_type(octets)
-}
-
-/// The type of a question at a message's end, as [`question_type`] has it; 0, which is no type of a record, where it isn't there (RFC 6895, 3.1).
-#[inline(always)]
-pub(crate) fn type_at_end(octets: &[u8]) -> u16
-    ensures { result ≡ 0 ⊎ question_type octets.now ≡ Some result }
-{
-    let len = octets.len();
-    if len <= 16 || pair_at(octets, QDCOUNT) != ONE {
-        return 0;
-    }
-    let more = pair_at(octets, NSCOUNT);
-    if more > 1 {
-        return 0;
-    }
-    if more == 0 {
-        return number_at(octets, len - 4);
-    }
-    if len > 27 && ends_with_opt(octets) {
-        return number_at(octets, len - 15);
-    }
-    0
 }
 
 /// The four bits of the RCODE that a header has (RFC 1035, 4.1.1).

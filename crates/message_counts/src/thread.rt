@@ -18,10 +18,10 @@ const SHOWN_EACH: u32 = 64;
 /// Counts the datagrams of a thread.
 pub trait DatagramCounts: Drop {
     /// Counts a request from an address.
-    fn received(&mut self, request: &[u8], from: SocketAddr);
+    fn received(&mut self, request: &[u8], from: &SocketAddr);
 
     /// Counts the reply to the request that was counted last, to an address.
-    fn sent(&mut self, reply: &[u8], to: SocketAddr);
+    fn sent(&mut self, reply: &[u8], to: &SocketAddr);
 
     /// The thread is to wait.
     fn rest(&mut self);
@@ -32,9 +32,11 @@ pub trait DatagramCounts: Drop {
 pub struct NoCounts;
 
 impl DatagramCounts for NoCounts {
-    fn received(&mut self, _request: &[u8], _from: SocketAddr) {}
+    #[inline(always)]
+    fn received(&mut self, _request: &[u8], _from: &SocketAddr) {}
 
-    fn sent(&mut self, _reply: &[u8], _to: SocketAddr) {}
+    #[inline(always)]
+    fn sent(&mut self, _reply: &[u8], _to: &SocketAddr) {}
 
     fn rest(&mut self) {}
 }
@@ -209,21 +211,22 @@ impl<'a, C: Clock> ThreadCounts<'a, C> {
 
     /// Whether a request that isn't a query gets its reply from this thread; the time of one for an update, which may get it from another, is noted.
     #[inline(never)]
-    fn is_answered(&self, request: &[u8], from: SocketAddr) -> bool {
+    fn is_answered(&self, request: &[u8], from: &SocketAddr) -> bool {
         if let Some(came) = self.come(request) {
-            self.shown.begin_update(from, id_of(request), came);
+            self.shown.begin_update(*from, id_of(request), came);
         }
         opcode_of(request) != UPDATE
     }
 
     /// Counts how long an update took, whose reply this thread sends.
     #[inline(never)]
-    fn end(&self, reply: &[u8], to: SocketAddr) {
+    fn end(&self, reply: &[u8], to: &SocketAddr) {
         let now = nanos_of(self.clock);
-        self.shown.end_update(to, id_of(reply), now);
+        self.shown.end_update(*to, id_of(reply), now);
     }
 
     /// Counts the last request as one without a reply, if it has none.
+    #[inline(always)]
     fn close(&mut self) {
         if self.is_open {
             self.is_open = false;
@@ -235,14 +238,14 @@ impl<'a, C: Clock> ThreadCounts<'a, C> {
 // A request for an update may get its reply from another thread, which counts it.
 impl<C: Clock> DatagramCounts for ThreadCounts<'_, C> {
     #[inline(always)]
-    fn received(&mut self, request: &[u8], from: SocketAddr) {
+    fn received(&mut self, request: &[u8], from: &SocketAddr) {
         self.close();
         self.is_open = self.take(Transport::Udp, family_of(from), request)
             || self.is_answered(request, from);
     }
 
     #[inline(always)]
-    fn sent(&mut self, reply: &[u8], to: SocketAddr) {
+    fn sent(&mut self, reply: &[u8], to: &SocketAddr) {
         self.is_open = false;
         if self.give(reply) {
             self.end(reply, to);
@@ -264,7 +267,8 @@ pub fn nanos_of<C: Clock>(clock: &C) -> u64 {
 }
 
 /// The family of an address.
-pub fn family_of(from: SocketAddr) -> AddressFamily {
+#[inline(always)]
+pub fn family_of(from: &SocketAddr) -> AddressFamily {
     if from.is_ipv4() {
         AddressFamily::V4
     } else {

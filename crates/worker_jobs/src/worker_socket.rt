@@ -215,8 +215,7 @@ impl<T: DatagramCounts> Datagrams for WorkerSocket<'_, T> {
         match self.next(buf) {
             Some(received) => {
                 self.stop.progress.add(1);
-                let (len, from) = received;
-                self.counts.received(&buf[..len], from);
+                self.counts.received(&buf[..received.0], &received.1);
                 Some(received)
             }
             None => {
@@ -228,7 +227,7 @@ impl<T: DatagramCounts> Datagrams for WorkerSocket<'_, T> {
 
     // The failure of a reply that was held back is counted by a later call.
     fn send(&mut self, octets: &[u8], to: SocketAddr) {
-        self.counts.sent(octets, to);
+        self.counts.sent(octets, &to);
         let is_held = match self.mode {
             Mode::Taking(_) => self.held.hold(octets, to),
             Mode::Waiting(_) => false,
