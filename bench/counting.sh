@@ -1,11 +1,22 @@
 # Sourced by the scripts here that count the instructions of `dnsd serve` under callgrind: asks it queries, and counts a run. The script has sourced bench/program.sh
-# and set `port` and `records`; $work/zone is the zone, and `asked` how queries are asked, by default plain.
+# and sets `port`; `records` is how many records the zone has, by default 1000, $work/zone is the zone, and `asked` how queries are asked, by default plain.
 # shellcheck shell=bash
 command -v valgrind >/dev/null || { echo "bench: no valgrind: it is Debian's package valgrind" >&2; exit 2; }
 server=
 asked=plain
+records=1000
 secret=AAECAwQFBgcICQoLDA0ODxAREhMUFRYXGBkaGxwdHh8=
 trap '[ -z "$server" ] || kill "$server" 2>/dev/null || true; rm -rf "$work"' EXIT
+
+# Sets `port` and `records` by the options of a script that has no others: [--port N] [RECORDS]
+options() {
+    while [ $# -gt 0 ]; do
+        case $1 in
+            --port) port=$2; shift 2 ;;
+            *) records=$1; shift ;;
+        esac
+    done
+}
 
 # Asks so many queries of the port, each after the reply to the one before: by turns a name that exists, one that doesn't, and an alias; plain, with an OPT (`opt`), or signed by
 # the key KIND.key, where `asked` is sha256 or sha512 (RFC 8945, 4.3): COUNT
@@ -51,4 +62,13 @@ count() {
     wait "$server"
     server=
     counted=$(sed -n 's/.*Collected *: *\([0-9]*\).*/\1/p' "$work/log")
+}
+
+# Sets `each` to the instructions a query: the difference of runs of 300 and of 3,300, for each of the 3,000. [OPTION ..]
+each() {
+    local few
+    count few 300 "$@"
+    few=$counted
+    count many 3300 "$@"
+    each=$(((counted - few) / 3000))
 }

@@ -7,24 +7,9 @@
 set -euo pipefail
 cd "$(dirname "$0")/.."
 . bench/program.sh
-port=15483
-records=1000
-while [ $# -gt 0 ]; do
-    case $1 in
-        --port) port=$2; shift 2 ;;
-        *) records=$1; shift ;;
-    esac
-done
 . bench/counting.sh
-
-# Sets `each` to the instructions a query: the difference of runs of 300 and of 3,300, for each of the 3,000. [OPTION ..]
-each() {
-    local few
-    count few 300 "$@"
-    few=$counted
-    count many 3300 "$@"
-    each=$(((counted - few) / 3000))
-}
+port=15483
+options "$@"
 
 # Prints the figure, and how far it is from another: WORDS [OTHER]
 tell() { echo "$records records, $1: $each instructions a query${2:+, $((each - $2)) more}"; }

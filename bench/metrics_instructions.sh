@@ -6,24 +6,9 @@
 set -euo pipefail
 cd "$(dirname "$0")/.."
 . bench/program.sh
-port=15493
-records=1000
-while [ $# -gt 0 ]; do
-    case $1 in
-        --port) port=$2; shift 2 ;;
-        *) records=$1; shift ;;
-    esac
-done
 . bench/counting.sh
-
-# Sets `each` to the instructions a query: the difference of runs of 300 and of 3,300, for each of the 3,000. [OPTION ..]
-each() {
-    local few
-    count few 300 "$@"
-    few=$counted
-    count many 3300 "$@"
-    each=$(((counted - few) / 3000))
-}
+port=15493
+options "$@"
 
 zone "$records" >"$work/zone"
 status=0

@@ -9,9 +9,9 @@
 set -euo pipefail
 cd "$(dirname "$0")/.."
 . bench/program.sh
+. bench/counting.sh
 port=15483
 functions=20
-records=1000
 while [ $# -gt 0 ]; do
     case $1 in
         --port) port=$2; shift 2 ;;
@@ -19,7 +19,6 @@ while [ $# -gt 0 ]; do
         *) records=$1; shift ;;
     esac
 done
-. bench/counting.sh
 
 zone "$records" >"$work/zone"
 count few 300

@@ -8,7 +8,6 @@
 # It needs Debian's packages bind9-dnsutils, curl and python3, a C compiler, and the program that `make dnsd` builds.
 set -euo pipefail
 cd "$(dirname "$0")/.."
-program=${DNSD:-$PWD/crates/dnsd/out/dnsd}
 port=15463
 while [ $# -gt 0 ]; do
     case $1 in
@@ -16,15 +15,8 @@ while [ $# -gt 0 ]; do
         *) echo "metrics: no option $1" >&2; exit 2 ;;
     esac
 done
-[ -x "$program" ] || { echo "metrics: no program at $program: run make dnsd first" >&2; exit 2; }
-for command in dig nsupdate curl python3; do
-    command -v "$command" >/dev/null || {
-        echo "metrics: no $command: it needs Debian's bind9-dnsutils, curl and python3" >&2
-        exit 2
-    }
-done
-. tests/asking.sh
-web=127.0.0.1:$((port + 1))
+needed=(dig:bind9-dnsutils nsupdate:bind9-dnsutils curl:curl python3:python3)
+. tests/scraped.sh
 
 # The zone: a set of forty addresses needs more than 512 octets.
 zone="$work/zone"

@@ -11,7 +11,6 @@
 # It needs Debian's packages prometheus (with promtool), chromium, bind9-dnsutils, curl and python3, and the program that `make dnsd` builds.
 set -euo pipefail
 cd "$(dirname "$0")/.."
-program=${DNSD:-$PWD/crates/dnsd/out/dnsd}
 port=15473 seconds=60 picture=
 while [ $# -gt 0 ]; do
     case $1 in
@@ -21,15 +20,8 @@ while [ $# -gt 0 ]; do
         *) echo "prometheus: no option $1" >&2; exit 2 ;;
     esac
 done
-[ -x "$program" ] || { echo "prometheus: no program at $program: run make dnsd first" >&2; exit 2; }
-for needed in prometheus:prometheus promtool:prometheus chromium:chromium dig:bind9-dnsutils nsupdate:bind9-dnsutils curl:curl python3:python3; do
-    command -v "${needed%:*}" >/dev/null || {
-        echo "prometheus: no ${needed%:*}: it needs Debian's ${needed#*:}" >&2
-        exit 2
-    }
-done
-. tests/asking.sh
-web=127.0.0.1:$((port + 1))
+needed=(prometheus:prometheus promtool:prometheus chromium:chromium dig:bind9-dnsutils nsupdate:bind9-dnsutils curl:curl python3:python3)
+. tests/scraped.sh
 own=127.0.0.1:$((port + 2))
 
 mkdir "$work/store"
