@@ -1,4 +1,4 @@
-//! The worker that tells what is counted, over HTTP (RFC 9112; own).
+//! The worker that serves what is counted, over HTTP (RFC 9112; own).
 ghost use Rattle.std.specs.Prelude.{◌≡◌, Some, IfOk};
 ghost use Rattle.requests.specs.Served.{Grows};
 
@@ -39,7 +39,7 @@ const ACCEPTED: usize = 64;
 /// How often it looks whether the threads go round, in milliseconds (own).
 const ROUND: u64 = 1_000;
 
-/// The socket for metrics, and what is needed to tell them.
+/// The socket for metrics, and what is needed to serve them.
 pub struct MetricsPlan {
     /// The socket, which doesn't block.
     pub listener: TcpListener,
@@ -77,7 +77,7 @@ impl Drop for MetricsPlan {
     }
 }
 
-/// The job that tells what is counted, with its worker's number.
+/// The job that serves what is counted, with its worker's number.
 pub struct MetricsJob<'a, C> {
     /// The number of its worker.
     pub number: usize,
@@ -125,7 +125,7 @@ impl<'a, C> Drop for MetricsJob<'a, C> {
 }
 
 impl<'a, C: Clock> MetricsJob<'a, C> {
-    /// The job of the worker with this number, which tells these counters. `AllocError` where there is no memory.
+    /// The job of the worker with this number, which serves these counters. `AllocError` where there is no memory.
     pub fn new(
         alloc: Global,
         number: usize,
@@ -306,7 +306,7 @@ impl<'a, C: Clock> MetricsJob<'a, C> {
         }
     }
 
-    /// The reply to what is told with the version that was published last.
+    /// The reply with what is counted, and with the version that was published last.
     fn reply_of_version<R: Wait, A: LocalUpdates>(
         &mut self,
         rt: &R,

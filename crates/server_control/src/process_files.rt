@@ -10,7 +10,7 @@ const TICK: u64 = 10_000_000;
 /// How many words of the line stand between the program's name and the processor time.
 const BEFORE: usize = 11;
 
-/// The files in which the system tells of the process: the one of its times, and the one of its memory.
+/// The files in which the system reports on the process: the one of its times, and the one of its memory.
 pub struct ProcessFiles {
     times: Option<File>,
     memory: Option<File>,

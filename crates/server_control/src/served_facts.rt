@@ -1,4 +1,4 @@
-//! What a server tells of itself, for Prometheus.
+//! What a server shows of itself, for Prometheus.
 use crate::process_files::ProcessFiles;
 use crate::udp_drops::UdpDrops;
 use counters::{Counters, ServerCounters};
@@ -38,7 +38,7 @@ impl RecordCount {
     }
 }
 
-/// What is told of a server with its version that was published last, and of its store, if it has one.
+/// What is served of a server with its version that was published last, and of its store, if it has one.
 pub(crate) fn metrics_of(
     alloc: Global,
     started: u64,
@@ -101,7 +101,7 @@ fn put_counted(
     Ok(())
 }
 
-/// Puts what the system knows at the end of what is told: what it dropped, and what it knows of the process; what can't be read is left out. The fault is a request for memory that was refused.
+/// Puts what the system knows at the end of what is served: what it dropped, and what it knows of the process; what can't be read is left out. The fault is a request for memory that was refused.
 pub(crate) fn put_system(
     alloc: Global,
     text: &mut Vec<u8>,
@@ -118,14 +118,14 @@ pub(crate) fn put_system(
     Ok(())
 }
 
-/// Puts what the system dropped at the end of what is told.
+/// Puts what the system dropped at the end of what is served.
 fn put_drops(alloc: Global, text: &mut Vec<u8>, drops: &[Drops]) -> Result<(), AllocError> {
     let mut families = Vec::new(alloc);
     drop_families(alloc, &mut families, drops)?;
     write_metrics(text, families.as_slice())
 }
 
-/// Puts what the system knows of the process at the end of what is told.
+/// Puts what the system knows of the process at the end of what is served.
 fn put_process(alloc: Global, text: &mut Vec<u8>, facts: ProcessFacts) -> Result<(), AllocError> {
     let mut families = Vec::new(alloc);
     process_families(alloc, &mut families, facts)?;
