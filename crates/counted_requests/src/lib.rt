@@ -1,7 +1,7 @@
 //! Handlers of connections that count the requests and the replies, and what rests between two turns.
 //!
 //! [`CountingConnections`] has another handler answer each request, and counts it and its reply by their octets. The messages of a reply that has several
-//! are counted as they are made ([`CountedMessages`]). [`Resting`] is a handler that is told when its thread is to wait.
+//! are counted as they are made ([`CountedMessages`]). [`Resting`] is a handler that is notified when its thread is to wait.
 #![tactic(auto)]
 
 mod connections;

@@ -1,4 +1,4 @@
-//! Handlers of connections that are told when their thread is to wait.
+//! Handlers of connections that are notified when their thread is to wait.
 ghost use Rattle.std.specs.Prelude.{◌≡◌};
 
 use dns_engine::FirstZone;
@@ -8,7 +8,7 @@ use tcp_loop::Tally;
 use zone_replies::{ConnectionHandler, Transfer};
 use zone_server::{ServerName, ServiceLog, TsigLog};
 
-/// A handler of connections that is told when its thread is to wait.
+/// A handler of connections that is notified when its thread is to wait.
 pub trait Resting<M: Messages>: Handler<M> {
     /// The thread is to wait, or may be. This has become of its connections so far.
     fn rest(&mut self, tally: Tally)

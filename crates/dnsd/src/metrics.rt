@@ -1,4 +1,4 @@
-//! What is counted and told of a running server: the socket for metrics, and the counters of its threads.
+//! What is counted and served of a running server: the socket for metrics, and the counters of its threads.
 use crate::control::NotBound;
 use command_line::Serve;
 use counters::ServerCounters;
@@ -33,7 +33,7 @@ const LINES: usize = 20;
 /// The files in which the system lists UDP sockets (Linux, proc(5)).
 const UDP_SOCKETS: [&str; 2] = ["/proc/net/udp", "/proc/net/udp6"];
 
-/// What tells how many datagrams the system drops: the files that can be opened. The fault is a growth that was refused.
+/// What shows how many datagrams the system drops: the files that can be opened. The fault is a growth that was refused.
 pub fn drops_for<R: Files<File = File> + AllocGlobal>(rt: &R) -> io::Result<UdpDrops> {
     let mut files = Vec::new(rt.alloc());
     for path in UDP_SOCKETS {
@@ -44,7 +44,7 @@ pub fn drops_for<R: Files<File = File> + AllocGlobal>(rt: &R) -> io::Result<UdpD
     Ok(UdpDrops::new(rt.alloc(), files))
 }
 
-/// The files in which the system tells of the process (Linux, proc(5)).
+/// The files in which the system reports on the process (Linux, proc(5)).
 pub fn process_for<R: Files<File = File>>(rt: &R) -> ProcessFiles {
     let times = File::open(rt, "/proc/self/stat").ok();
     let memory = File::open(rt, "/proc/self/status").ok();
@@ -67,7 +67,7 @@ pub fn metrics_of(
     Ok(Some(plan))
 }
 
-/// Binds the socket for metrics, if they are told: what a thread needs that tells them.
+/// Binds the socket for metrics, if they are served: what a thread needs that serves them.
 pub fn metrics_for<R: Files<File = File> + Net + Env + Eprint + AllocGlobal + Clock>(
     rt: &R,
     serve: &Serve<'_>,
@@ -92,7 +92,7 @@ pub fn metrics_for<R: Files<File = File> + Net + Env + Eprint + AllocGlobal + Cl
     }
 }
 
-/// What others see of the log's thread, if metrics are told. The fault is a request for memory that was refused.
+/// What others see of the log's thread, if metrics are served. The fault is a request for memory that was refused.
 pub fn seen_writer_of(metrics: Option<&MetricsPlan>) -> Result<Option<SeenWriter>, AllocError> {
     match metrics {
         Some(plan) => Ok(Some(SeenWriter {
@@ -103,7 +103,7 @@ pub fn seen_writer_of(metrics: Option<&MetricsPlan>) -> Result<Option<SeenWriter
     }
 }
 
-/// Where the update thread shows since when a batch has been under way, if metrics are told. The fault is a request for memory that was refused.
+/// Where the update thread shows since when a batch has been under way, if metrics are served. The fault is a request for memory that was refused.
 pub fn update_work_of(metrics: Option<&MetricsPlan>) -> Result<Option<SharedWork>, AllocError> {
     match metrics {
         Some(plan) => Ok(Some(Arc::try_clone(&plan.updating)?)),
@@ -111,7 +111,7 @@ pub fn update_work_of(metrics: Option<&MetricsPlan>) -> Result<Option<SharedWork
     }
 }
 
-/// Where the threads that answer requests show what they count, if metrics are told. The fault is a request for memory that was refused.
+/// Where the threads that answer requests show what they count, if metrics are served. The fault is a request for memory that was refused.
 pub fn counters_for(
     alloc: Global,
     serve: &Serve<'_>,

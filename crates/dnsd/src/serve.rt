@@ -190,7 +190,7 @@ struct Bound {
     entries: Entries,
     /// What the thread needs that takes the operator's commands, if there is one.
     control: Option<ControlPlan>,
-    /// What the thread needs that tells metrics, if there is one.
+    /// What the thread needs that serves metrics, if there is one.
     metrics: Option<MetricsPlan>,
 }
 
