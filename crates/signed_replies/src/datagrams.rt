@@ -101,7 +101,7 @@ impl<'r, 'k, K: KeyRing, A: SignsLater + Drop, C: UnixClock, O: TsigLog + Drop> 
         ensures same { self.new.peer ≡ self.old.peer }
         ensures grows { Grows {T = Version} (A.seen self.new.inner) (A.seen self.old.inner) }
         ensures bound { IfOk result (λ len. IfSome len (λ n. (n ≤ message_limit) × (n ≤ length out.new))) }
-        ensures reply { IfOk result (λ len. IsReplyTo {T = Version} K.keys K.rights A.is_reply AreSignedAlone (by_datagram self.old.peer) (A.seen self.old.inner) (A.seen self.new.inner) request.now (messages_in len out.new)) }
+        ensures reply { IfOk result (λ len. IsReplyTo {K = Learned Version} K.keys K.rights A.is_reply AreSignedAlone (Grows {T = Version}) (by_datagram self.old.peer) (A.seen self.old.inner) (A.seen self.new.inner) request.now (messages_in len out.new)) }
     {
         if request.len() > MAX_LIMIT {
             return self.answer_plain(rt, request, out);
