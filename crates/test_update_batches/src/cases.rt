@@ -141,10 +141,7 @@ pub(crate) const CASES: &[Case] = &[
         plan: None,
         rooms: &[],
         rounds: &[(&[ADD_1, ADD_2], TurnEnd::Judged)],
-        results: &[
-            (1, 1, 0, Some((4_294_967_295, 0))),
-            (1, 2, 0, Some((0, 1))),
-        ],
+        results: &[(1, 1, 0, Some((4_294_967_295, 0))), (1, 2, 0, Some((0, 1)))],
         published: (3, 1),
         recovered: &[],
     },

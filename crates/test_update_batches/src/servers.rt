@@ -12,7 +12,8 @@ example. 3600 IN NS ns.example.
 ";
 
 /// The zone text with the last serial, after which comes 0 (RFC 1982, 3.1).
-pub(crate) const LAST_SERIAL: &str = "example. 3600 IN SOA ns.example. host.example. 4294967295 1 1 1 1
+pub(crate) const LAST_SERIAL: &str =
+    "example. 3600 IN SOA ns.example. host.example. 4294967295 1 1 1 1
 example. 3600 IN NS ns.example.
 ";
 
