@@ -1,6 +1,6 @@
 -- A family to which a sample is put for each of a list.
-use Rattle.std.proofs.Common.{◌≡◌, ℕ, ◌+◌, ◌<◌, List, [], ◌∷◌, ◌++◌, map, flat_map, drop, length, get_or, ap, ◌∙◌, sym}
-use Rattle.std.proofs.lemmas.List.{append_assoc, drop_more}
+use Rattle.std.proofs.Common.{◌≡◌, ℕ, ◌+◌, ◌<◌, ◌≤◌, List, [], ◌∷◌, ◌++◌, map, flat_map, drop, length, get_or, ap, ◌∙◌, sym}
+use Rattle.std.proofs.lemmas.List.{append_assoc, append-nil, drop_more, drop_all}
 use Rattle.metrics_text.specs.Families.{FamilyOf, with_sample, with_samples}
 use Rattle.metrics_text.specs.Samples.{SampleOf}
 
@@ -37,3 +37,17 @@ several_more f family next whole all i a within put before =
     let left = flat_map f (drop (i + 1) all) in
     ap (λ (it : FamilyOf). with_samples it left) put
     ∙ (joined family (f (get_or all i a)) left ∙ (sym (ap (λ ls. with_samples family (flat_map f ls)) (drop_more all i a within)) ∙ before))
+
+-- no sample more changes nothing
+pub none_put : (family : FamilyOf) → family ≡ with_samples family []
+none_put family =
+    let of_samples : List SampleOf → FamilyOf = λ samples. record { name = family.name; help = family.help; kind = family.kind; samples = samples } in
+    ap of_samples (sym (append-nil family.samples))
+
+-- once none is left, what is there is all
+pub one_done : {A : Type 0} (f : A → SampleOf) (family whole : FamilyOf) (all : List A) (i : ℕ) → length all ≤ i → with_samples family (map f (drop i all)) ≡ whole → family ≡ whole
+one_done f family whole all i past before = none_put family ∙ (ap (λ ls. with_samples family (map f ls)) (sym (drop_all i all past)) ∙ before)
+
+-- so where each has several
+pub several_done : {A : Type 0} (f : A → List SampleOf) (family whole : FamilyOf) (all : List A) (i : ℕ) → length all ≤ i → with_samples family (flat_map f (drop i all)) ≡ whole → family ≡ whole
+several_done f family whole all i past before = none_put family ∙ (ap (λ ls. with_samples family (flat_map f ls)) (sym (drop_all i all past)) ∙ before)

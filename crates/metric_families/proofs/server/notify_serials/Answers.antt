@@ -1,0 +1,11 @@
+use Rattle.metric_families.specs.Known.{SecondaryOf, serial_samples}
+use Rattle.metric_families.proofs.EachLemmas.{several_more, several_done}
+use Rattle.metric_families.proofs.server.notify_serials.Goals as goal
+
+pub loop-secondary-preserved : goal.loop-secondary-preserved
+loop-secondary-preserved c =
+    several_more (λ (s : SecondaryOf). serial_samples s.address s.serial) c.loop-secondary.family _ _ c.args.secondaries.now c.loop-secondary.secondary-index _ c.loop-secondary-test.true c.in_ok-put_serial.ensures c.loop-secondary.invariant
+
+pub returns : goal.returns
+returns c =
+    several_done (λ (s : SecondaryOf). serial_samples s.address s.serial) c.loop-secondary.family _ c.args.secondaries.now c.loop-secondary.secondary-index c.loop-secondary-test.false c.loop-secondary.invariant
