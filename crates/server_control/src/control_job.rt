@@ -3,7 +3,8 @@ ghost use Rattle.std.specs.Prelude.{◌≡◌, Some, IfOk};
 ghost use Rattle.requests.specs.Served.{Grows};
 
 use crate::control_reload::{Reload, Step, abandon, after_judging, after_making, order};
-use crate::control_text::{ServedSince, StoreStatus, done, failed, stats, status};
+use crate::control_text::{Obeyed, ServedSince, StoreStatus, done, failed, replied, stats, status};
+use crate::monotonic::millis_of;
 use crate::process_files::ProcessFiles;
 use crate::reload_slot::{ReloadOrder, Reloads};
 use crate::served_facts::{RecordCount, metrics_of, put_system, store_facts};
@@ -103,15 +104,6 @@ enum Look {
     GoesOn(Reload),
     /// It has ended so.
     Ends(JobEnd),
-}
-
-/// What a command's client gets.
-#[derive(Drop)]
-enum Obeyed {
-    /// Its reply.
-    Reply(String),
-    /// Its reply once the reload is over.
-    Later,
 }
 
 impl<'a, C: Clock> ControlJob<'a, C> {
@@ -490,18 +482,5 @@ impl<'a, C: Clock> ControlJob<'a, C> {
         if let Some(slot) = &self.plan.reloads {
             slot.end(rt);
         }
-    }
-}
-
-/// A command's reply, if there was memory for it.
-fn replied(text: Result<String, AllocError>) -> Result<Obeyed, AllocError> {
-    Ok(Obeyed::Reply(text?))
-}
-
-/// The time that a clock shows, in milliseconds. 0 where it can't be read.
-fn millis_of<C: Clock>(clock: &C) -> u64 {
-    match clock.monotonic() {
-        Ok(time) => u64::try_from(time.as_millis()).unwrap_or(u64::MAX),
-        Err(_) => 0,
     }
 }

@@ -22,6 +22,20 @@ pub(crate) fn failed(alloc: Global, reason: &str) -> Result<String, AllocError> 
     Ok(text)
 }
 
+/// What a command's client gets.
+#[derive(Drop)]
+pub(crate) enum Obeyed {
+    /// Its reply.
+    Reply(String),
+    /// Its reply once the reload is over.
+    Later,
+}
+
+/// A command's reply, if there was memory for it.
+pub(crate) fn replied(text: Result<String, AllocError>) -> Result<Obeyed, AllocError> {
+    Ok(Obeyed::Reply(text?))
+}
+
 /// Since when a server serves.
 #[derive(Clone, Copy, Debug, PartialEq, Eq)]
 pub(crate) struct ServedSince {

@@ -10,6 +10,7 @@ mod control_text;
 mod file_change;
 mod metrics_client;
 mod metrics_job;
+mod monotonic;
 mod process_files;
 mod rates;
 mod reload_slot;

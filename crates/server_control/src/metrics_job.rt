@@ -3,6 +3,7 @@ ghost use Rattle.std.specs.Prelude.{◌≡◌, Some, IfOk};
 ghost use Rattle.requests.specs.Served.{Grows};
 
 use crate::metrics_client::{MetricsClient, accept_client};
+use crate::monotonic::millis_of;
 use crate::process_files::ProcessFiles;
 use crate::rates::{Rates, is_due};
 use crate::served_facts::{RecordCount, metrics_of, put_system, store_facts};
@@ -488,12 +489,4 @@ fn replied(
     let mut text = Vec::new(alloc);
     write_reply(&mut text, status, content, body)?;
     Ok(text)
-}
-
-/// The time that a clock shows, in milliseconds. 0 where it can't be read.
-fn millis_of<C: Clock>(clock: &C) -> u64 {
-    match clock.monotonic() {
-        Ok(time) => u64::try_from(time.as_millis()).unwrap_or(u64::MAX),
-        Err(_) => 0,
-    }
 }
