@@ -19,8 +19,8 @@ one_more f family next whole all i a within put before =
     ∙ (appended family (f (get_or all i a)) left ∙ (sym (ap (λ ls. with_samples family (map f ls)) (drop_more all i a within)) ∙ before))
 
 -- three samples after one another are one list
-pub three : (family : FamilyOf) {one two all : FamilyOf} {a b c : SampleOf} → one ≡ with_sample family a → two ≡ with_sample one b → all ≡ with_sample two c → all ≡ with_samples family (a ∷ (b ∷ (c ∷ [])))
-three family {a = a} {b = b} {c = c} first second third =
+pub three : (family one two all : FamilyOf) (a b c : SampleOf) → one ≡ with_sample family a → two ≡ with_sample one b → all ≡ with_sample two c → all ≡ with_samples family (a ∷ (b ∷ (c ∷ [])))
+three family one two all a b c first second third =
     third ∙ (ap (λ (it : FamilyOf). with_sample it c) (second ∙ ap (λ (it : FamilyOf). with_sample it b) first)
     ∙ (appended (with_sample family a) b (c ∷ []) ∙ appended family a (b ∷ (c ∷ []))))
 

@@ -195,20 +195,27 @@ fn notify_serials(alloc: Global, secondaries: &[SecondaryFacts]) -> Result<Famil
     let help = "The serial that a secondary last answered for";
     let mut family = Family::new(alloc, "dnsd_notify_serial", help, GAUGE);
     for secondary in secondaries {
-        put_serial(alloc, &mut family, secondary)?;
+        put_serial(
+            alloc,
+            &mut family,
+            secondary.address.as_str(),
+            secondary.serial,
+        )?;
     }
     Ok(family)
 }
 
-/// Puts the sample of the serial that a secondary last answered for after others, if it has answered.
-fn put_serial(alloc: Global, family: &mut Family, facts: &SecondaryFacts) -> Result<(), AllocError>
-    ensures { OnOk result (family.new ≡ with_samples family.old (serial_samples facts.now.address facts.now.serial)) }
+/// Puts the sample of the serial that the secondary at an address last answered for after others, if it has answered.
+fn put_serial(
+    alloc: Global,
+    family: &mut Family,
+    address: &str,
+    serial: Option<u32>,
+) -> Result<(), AllocError>
+    ensures { OnOk result (family.new ≡ with_samples family.old (serial_samples address.now serial)) }
 {
-    match facts.serial {
-        Some(serial) => {
-            let address = facts.address.as_str();
-            put_labelled(family, alloc, SECONDARY, address, u64::from(serial))
-        }
+    match serial {
+        Some(serial) => put_labelled(family, alloc, SECONDARY, address, u64::from(serial)),
         None => Ok(()),
     }
 }
