@@ -1,4 +1,0 @@
-pub mod CountLemmas
-pub mod NameLemmas
-pub mod OwnerLemmas
-pub mod TypeLemmas
