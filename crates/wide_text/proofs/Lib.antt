@@ -1,8 +1,5 @@
-pub mod BareLemmas
 pub mod EuiLemmas
 pub mod FieldLemmas
-pub mod ItemLemmas
-pub mod FrontBack
 pub mod KeyedLemmas
 pub mod LocationLemmas
 pub mod ParamLemmas
@@ -10,7 +7,5 @@ pub mod PlainFront
 pub mod PlainLemmas
 pub mod QuoteLemmas
 pub mod RestLemmas
-pub mod SpeltWords
-pub mod WideWords
 pub mod WordLemmas
 pub mod WriteLemmas
