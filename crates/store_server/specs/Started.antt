@@ -204,7 +204,7 @@ IsRefusedBy given origin taken (LacksText number) refusal = refusal ≡ NoText n
 IsRefusedBy given origin taken (Empty lock) refusal = IsNoText given origin refusal
 IsRefusedBy given origin taken (Found lock pair) refusal = IsRefusedOf pair.text.items pair.journal.items given origin taken refusal
 
--- a file keeps the torn end of a journal of so many octets, if there is such an end: its path is given
+-- a path is told of the file that keeps the torn end of a journal of so many octets, if there is such an end
 abbrev pub IsEndKept : {P : Type 0} → ℕ → Ending → Option P → Type 0
 IsEndKept len (Torn end) torn = torn ≡ None → len ≤ end
 IsEndKept len _ torn = torn ≡ None
