@@ -3,6 +3,7 @@
    told when it begins and when it has come back. Each record is put there by one write, while no other thread's call is done: so they stand in the
    order of the calls, and where the program is killed all are whole but perhaps the last one, of whose call the program knows nothing yet.
      DISK_SLOW=N    each sync takes N milliseconds more
+     DISK_WHEN=FILE it does only while there is this file
      DISK_FAIL=K    the Kth of the writes, cuts, syncs and renames below the folder, counted from 1, is refused: a write by ENOSPC, others by EIO.
                     A sync that is refused isn't done
      DISK_COUNT=N   so many in a row are refused, by default 1
@@ -187,7 +188,8 @@ static int synced(long call, int file) {
     int is = refused(EIO) ? -1 : 0;
     pthread_mutex_unlock(&lock);
     struct timespec time = {slow / 1000, slow % 1000 * 1000000};
-    while (slow && nanosleep(&time, &time) && errno == EINTR) {}
+    const char *when = getenv("DISK_WHEN");
+    while (slow && (!when || !access(when, F_OK)) && nanosleep(&time, &time) && errno == EINTR) {}
     if (is) errno = EIO;
     else is = syscall(call, file);
     pthread_mutex_lock(&lock);

@@ -366,9 +366,8 @@ exec 8<&-
 unserve
 "${CC:-cc}" -O2 -shared -fPIC -o "$work/disk.so" tests/disk.c
 mkdir "$work/slow"
-serve "$zone" --store "$work/slow"
-unserve
-workers=2 LD_PRELOAD=$work/disk.so DISK_DIR=$work/slow DISK_SLOW=13000 serve "$zone" --metrics "$web" --store "$work/slow"
+workers=2 LD_PRELOAD=$work/disk.so DISK_DIR=$work/slow DISK_SLOW=13000 DISK_WHEN=$work/hangs serve "$zone" --metrics "$web" --store "$work/slow"
+touch "$work/hangs"
 {
     printf 'server 127.0.0.1 %s\nzone example.test\nprereq yxdomain no.example.test\nupdate add u.example.test 300 A 192.0.2.1\nsend\n' "$port" | nsupdate >"$work/said" 2>&1
 } || true
