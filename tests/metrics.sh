@@ -4,7 +4,7 @@
 # HTTP by curl; and what `dnsd control PATH stats` prints. It prints a line a check and a count, and its status is 1 where one failed. It
 # listens on 127.0.0.1 alone, and ends what it starts.
 # Usage: [DNSD=PROGRAM] tests/metrics.sh [--port N]
-#   --port N    dnsd listens on N (by default 15463), and for HTTP on the one behind it
+#   --port N    dnsd listens on N (by default 15463), and for HTTP on the one after it; three more are used
 # It needs Debian's packages bind9-dnsutils, curl and python3, a C compiler, and the program that `make dnsd` builds.
 set -euo pipefail
 cd "$(dirname "$0")/.."
@@ -162,6 +162,14 @@ dnsd_transfers_total{type=\"IXFR\",result=\"incremental\"} 1
 dnsd_connections_opened_total 1
 dnsd_connections_ended_total{reason=\"done\"} 1" ask example.test IXFR=1
 
+counts 'the whole zone, where too much changed' "$tcp
+$query
+dnsd_query_types_total{type=\"IXFR\"} 1
+$noerror
+dnsd_transfers_total{type=\"IXFR\",result=\"full\"} 1
+dnsd_connections_opened_total 1
+dnsd_connections_ended_total{reason=\"done\"} 1" ask example.test IXFR=0
+
 # Each of the three updates has a time, and all of them took some, and less than three seconds.
 check 'times of updates' 3 "$(sample dnsd_update_seconds_count)"
 check 'how long they took' yes "$(sample dnsd_update_seconds_sum | awk '{ print ($1 > 0 && $1 < 3 ? "yes" : $1) }')"
@@ -201,7 +209,7 @@ curl -fsS "http://$web/metrics" | sed 's/ .*//' | sort >"$work/web"
 check 'stats prints the same families' '' "$(diff "$work/web" "$work/stats")"
 
 unserve
-serve "$zone" --metrics "$web" --allow ''
+workers=1 serve "$zone" --metrics "$web" --allow '' --idle 1 --connections 1
 counts 'a transfer that is not permitted' "$tcp
 $query
 dnsd_query_types_total{type=\"AXFR\"} 1
@@ -209,6 +217,23 @@ dnsd_responses_total{rcode=\"REFUSED\"} 1
 dnsd_transfers_total{type=\"AXFR\",result=\"refused\"} 1
 dnsd_connections_opened_total 1
 dnsd_connections_ended_total{reason=\"done\"} 1" ask example.test AXFR
+
+counts 'a transfer of what changed that is not permitted' "$tcp
+$query
+dnsd_query_types_total{type=\"IXFR\"} 1
+dnsd_responses_total{rcode=\"REFUSED\"} 1
+dnsd_transfers_total{type=\"IXFR\",result=\"refused\"} 1
+dnsd_connections_opened_total 1
+dnsd_connections_ended_total{reason=\"done\"} 1" ask example.test IXFR=1
+
+# A connection that says nothing, and one whose place another one gets.
+silent() { exec 7<>"/dev/tcp/127.0.0.1/$port"; sleep 4; exec 7>&-; }
+crowd() { exec 6<>"/dev/tcp/127.0.0.1/$port"; sleep 0.3; exec 7<>"/dev/tcp/127.0.0.1/$port"; sleep 0.3; exec 6>&- 7>&-; }
+counts 'a connection that is idle' 'dnsd_connections_opened_total 1
+dnsd_connections_ended_total{reason="idle"} 1' silent
+counts 'a connection that makes room' 'dnsd_connections_opened_total 2
+dnsd_connections_ended_total{reason="done"} 1
+dnsd_connections_ended_total{reason="limit"} 1' crowd
 
 counts 'an update that is not permitted' "$udp
 dnsd_requests_total{opcode=\"UPDATE\"} 1
@@ -328,6 +353,48 @@ dnsd_zone_records{zone=\"example.test.\"} 1
 dnsd_zone_versions_total{zone=\"example.test.\"} 1" update 'update add new.example.test 300 A 192.0.2.77'
 
 check 'its journal' longer "$([ "$(sample dnsd_store_journal_bytes)" -gt "$journal" ] && echo longer)"
+
+# A secondary that answers, and whose own count is the server's.
+unserve
+python3 - "$((port + 4))" >"$work/notified" <<'P' &
+import socket, sys
+with socket.socket(socket.AF_INET, socket.SOCK_DGRAM) as it:
+    it.bind(("127.0.0.1", int(sys.argv[1])))
+    while True:
+        notify, peer = it.recvfrom(4096)
+        print(notify[:2].hex(), flush=True)
+        it.sendto(notify[:2] + b"\xa4\0" + notify[4:], peer)
+P
+started+=("$!")
+sleep 0.5
+secondary="secondary=\"127.0.0.1:$((port + 4))\""
+workers=1 serve "$zone" --metrics "$web" --store "$work/store" --notify "127.0.0.1:$((port + 4))"
+update 'update add told.example.test 300 A 192.0.2.80'
+serial=$(sample 'dnsd_zone_serial{zone="example.test."}')
+for _ in $(seq 100); do
+    [ "$(sample "dnsd_notify_serial{$secondary}")" != "$serial" ] || break
+    sleep 0.1
+done
+check 'the serial that a secondary answered for' "$serial" "$(sample "dnsd_notify_serial{$secondary}")"
+check 'NOTIFYs that were sent' "$(wc -l <"$work/notified")" "$(sample "dnsd_notify_total{$secondary,result=\"sent\"}")"
+check 'those that were answered' "$(sort -u "$work/notified" | wc -l)" "$(sample "dnsd_notify_total{$secondary,result=\"answered\"}")"
+check 'those that were given up' 0 "$(sample "dnsd_notify_total{$secondary,result=\"given_up\"}")"
+
+# Each family that there is, is one of docs/OPERATING.md, and each of these is there.
+check 'the families of docs/OPERATING.md' "$(grep '^| `[dp]' docs/OPERATING.md | grep -o '`\(dnsd\|process\)_[a-z_]*' | tr -d '`' | LC_ALL=C sort)" \
+    "$(curl -fsS "http://$web/metrics" | sed -n 's/^# TYPE \([^ ]*\).*/\1/p' | LC_ALL=C sort)"
+
+# A store that can't be written, and is there again.
+mv "$work/store" "$work/away"
+update 'update add lost.example.test 300 A 192.0.2.81' >"$work/said" 2>&1 || true
+check 'an update that can not be stored' 'update failed: SERVFAIL' "$(cat "$work/said")"
+check 'it is refused for a failure' yes "$(sample 'dnsd_updates_refused_total{reason="failure"}' | awk '{ print ($1 > 0 ? "yes" : $1) }')"
+check 'the store is failing' 1 "$(sample dnsd_store_failing)"
+check 'health with a store that fails' '503 text/plain; charset=utf-8 store failing' "$(told "http://$web/healthz") $(cat "$work/body")"
+mv "$work/away" "$work/store"
+check 'an update once the store is back' '' "$(update 'update add back.example.test 300 A 192.0.2.82' 2>&1)"
+check 'the store is written' 0 "$(sample dnsd_store_failing)"
+check 'health then' '200 text/plain; charset=utf-8 ok' "$(told "http://$web/healthz") $(cat "$work/body")"
 
 # Without metrics the control socket tells what needs no counters.
 unserve
