@@ -113,6 +113,7 @@ dnsd_responses_total{rcode=\"BADVERS\"} 1" ask +edns=1 +noednsneg web.example.te
 
 check 'the octets of requests' "$(total "$work/sent")" "$(sample dnsd_received_bytes_total)"
 check 'the octets of replies' "$(total "$work/received")" "$(sample dnsd_sent_bytes_total)"
+check 'the replies of all codes together' "$(wc -l <"$work/received")" "$(curl -fsS "http://$web/metrics" | awk '/^dnsd_responses_total/ { n += $2 } END { print n }')"
 
 counts 'a transfer' "$tcp
 $query
