@@ -33,6 +33,37 @@ check 'promtool check metrics says nothing' '0 ' "$(said=$(promtool check metric
 check 'promtool check rules finds no fault' 0 "$(promtool check rules contrib/prometheus-rules.yml >"$work/said" 2>&1 && echo 0 || cat "$work/said")"
 check 'promtool check config finds no fault' 0 "$(promtool check config contrib/prometheus.yml >"$work/said" 2>&1 && echo 0 || cat "$work/said")"
 
+# Of secondaries one is behind and one has never answered; one of another server is a second behind at each moment, and no rule holds of it.
+cat >"$work/rules_test.yml" <<P
+rule_files: [$PWD/contrib/prometheus-rules.yml]
+evaluation_interval: 15s
+tests:
+  - interval: 15s
+    input_series:
+      - {series: 'dnsd_zone_serial{instance="a",zone="x."}', values: 1x60}
+      - {series: 'dnsd_notify_serial{instance="a",secondary="current"}', values: 1x60}
+      - {series: 'dnsd_notify_serial{instance="a",secondary="behind"}', values: 4294967295x60}
+      - {series: 'dnsd_notify_total{instance="a",secondary="behind",result="sent"}', values: 2x60}
+      - {series: 'dnsd_notify_total{instance="a",secondary="behind",result="answered"}', values: 1x60}
+      - {series: 'dnsd_notify_total{instance="a",secondary="silent",result="sent"}', values: 2x60}
+      - {series: 'dnsd_notify_total{instance="a",secondary="silent",result="answered"}', values: 0x60}
+      - {series: 'dnsd_zone_serial{instance="b",zone="x."}', values: 10+1x60}
+      - {series: 'dnsd_notify_serial{instance="b",secondary="current"}', values: 9+1x60}
+    alert_rule_test:
+      - {eval_time: 4m, alertname: DnsdSecondaryBehind, exp_alerts: []}
+      - eval_time: 14m
+        alertname: DnsdSecondaryBehind
+        exp_alerts:
+          - exp_labels: {instance: a, secondary: behind}
+            exp_annotations: {summary: the secondary behind has not answered for the last serial}
+      - eval_time: 14m
+        alertname: DnsdSecondarySilent
+        exp_alerts:
+          - exp_labels: {instance: a, secondary: silent, result: sent}
+            exp_annotations: {summary: the secondary silent has answered no NOTIFY since the server was started}
+P
+check 'the rules of secondaries' 0 "$(promtool test rules "$work/rules_test.yml" >"$work/said" 2>&1 && echo 0 || cat "$work/said")"
+
 # Prometheus with the files of contrib, but for the address and how often it asks.
 sed "s/127.0.0.1:9153/$web/; s/scrape_interval: .*/scrape_interval: 1s/" contrib/prometheus.yml >"$work/prometheus.yml"
 cp contrib/prometheus-rules.yml "$work/"
