@@ -1,12 +1,12 @@
 #!/usr/bin/env bash
 # Measures `dnsd serve` by dnsperf, beside knotd and nsd where these are installed, each with as many workers, in the same run: queries
 # a second over UDP, by a client for each worker, by 20, and by 60 with 500 queries outstanding, and over TCP on 20 and on 50 connections, mean latency, and
-# processor time a query (of the server alone, from /proc), in whole and the part that isn't the kernel's; of another program of dnsd too, where --beside names one; with more rounds than one
+# processor time a query (of the server alone, from /proc), in whole and the part that isn't the kernel's; of another program of dnsd too, where --beside names one, and of this one with --metrics, where that is given; with more rounds than one
 # the servers take turns, and the middle of each figure is told at the end; then of dnsd the same
 # with 3,000 places a worker, without and beside idle connections that are opened anew as they end, updates a second, and the 99th percentile of queries' times without updates, while updates go to another dnsd on the same machine, and while as
 # many go to the one that is asked.
-# Usage: [DNSD=PROGRAM] bench/serve.sh [--seconds N] [--workers "N .."] [--port N] [--updates N] [--idle N] [--beside PROGRAM] [--queries-only] [--udp-only] [--grid] [--rounds N] [RECORDS ..]
-#   by default 5 seconds a figure, one round, 1, 2 and 4 workers, ports 15453 and 15454, at most 10000 updates a second beside queries, 2000 idle
+# Usage: [DNSD=PROGRAM] bench/serve.sh [--seconds N] [--workers "N .."] [--port N] [--updates N] [--idle N] [--beside PROGRAM] [--metrics] [--queries-only] [--udp-only] [--grid] [--rounds N] [RECORDS ..]
+#   by default 5 seconds a figure, one round, 1, 2 and 4 workers, ports 15453 to 15455, at most 10000 updates a second beside queries, 2000 idle
 #   connections, and zones of 1000 and 1000000 records; --queries-only leaves out idle connections and updates, and --udp-only queries over TCP too; --grid asks over TCP alone, on 1, 2, 4, 8, 16 and 50 connections with 1, 2 and 8
 #   queries outstanding on each, the servers by turns
 # It needs Debian's dnsperf, and knot and nsd for the figures beside. `make dnsd` builds the program.
@@ -20,6 +20,7 @@ port=15453
 most=10000
 idle=2000
 other_program=
+metrics=
 whole=yes
 over_tcp=yes
 grid=
@@ -33,6 +34,7 @@ while [ $# -gt 0 ]; do
         --updates) most=$2; shift 2 ;;
         --idle) idle=$2; shift 2 ;;
         --beside) other_program=$2; shift 2 ;;
+        --metrics) metrics=yes; shift ;;
         --queries-only) whole=; shift ;;
         --udp-only) whole= over_tcp=; shift ;;
         --grid) whole= grid=yes; shift ;;
@@ -190,6 +192,7 @@ for records in "${sizes[@]}"; do
         for _ in $(seq "$rounds"); do
             "measure${grid:+_grid}" dnsd "$w" "$records"
             [ -z "$other_program" ] || "measure${grid:+_grid}" before "$w" "$records"
+            [ -z "$metrics" ] || "measure${grid:+_grid}" dnsd_with_metrics "$w" "$records"
             for other in knotd nsd; do
                 if command -v $other >/dev/null; then "measure${grid:+_grid}" $other "$w" "$records"; fi
             done

@@ -37,6 +37,11 @@ start_dnsd() {
     server=$!
 }
 
+# dnsd with metrics: WORKERS
+start_dnsd_with_metrics() {
+    start_dnsd "$1" --metrics "127.0.0.1:$((port + 2))"
+}
+
 # the program that --beside names
 start_before() {
     "$other_program" serve --listen "127.0.0.1:$port" --workers "$1" "$work/zone" 2>"$work/log" &
