@@ -2,7 +2,8 @@
 """Measures what a client waits for, and the server's processor time, of `dnsd serve` beside knotd and nsd where these are installed, and beside a bare UDP echo: all in one
 run and by turns. Each figure is the middle of the rounds. Its parts:
   tcp        replies over TCP on 1 to 50 connections with 1, 2 and 8 queries outstanding on each, one worker (bench/grid.py)
-  udp        replies over UDP, one worker, of 1,000 and 999,000 records: 20 clients with 100 queries outstanding in all, and one with 50
+  udp        replies over UDP, one worker, of 1,000 and 999,000 records: 20 clients with 100 queries outstanding in all, and one with 50; and 20 that ask for names
+             outside of the zone, which are refused
   bursts     the same of 60 clients with 500 outstanding, of 1,000 records, one worker and four; and of 20 with 100, four workers
   transfers  AXFR of 100,000 and of a million records (bench/serve_transfer.py)
   updates    the 99th percentile of 2,000 queries a second, alone and beside 20,000 updates a second, of 1,000, 100,000 and 999,000 records, without a store and with one;
@@ -61,7 +62,7 @@ def tcp(room, given):
 def asked(server, questions, clients, outstanding, seconds):
     """By dnsperf: replies a second, microseconds of processor time a query, how many were lost, and the mean latency in microseconds."""
     before = server.seconds()
-    words = ["-m", "udp", "-s", "127.0.0.1", "-p", str(server.port), "-d", questions, "-l", str(seconds), "-c", str(clients), "-T", "1", "-q", str(outstanding)]
+    words = ["-m", "udp", "-s", "127.0.0.1", "-p", str(server.port), "-d", questions, "-l", str(seconds), "-t", "1", "-c", str(clients), "-T", "1", "-q", str(outstanding)]
     said = subprocess.run(["dnsperf", *words], capture_output=True, text=True, check=True).stdout
     spent = server.seconds() - before
     done, lost, rate, latency = (
@@ -71,10 +72,11 @@ def asked(server, questions, clients, outstanding, seconds):
 
 
 def over_udp(room, given, workers, records, loads):
-    """Of each load, clients and queries outstanding: a row for each server, and the rounds' figures by its name."""
-    zone, questions = f"{room}/udp{records}", f"{room}/questions{records}"
+    """Of each load, clients and queries outstanding, of names in the zone or outside: a row for each server, and the rounds' figures by its name."""
+    zone, asks = f"{room}/udp{records}", {apex: f"{room}/questions{records}.{apex}" for apex in ("test", "org")}
     write_zone(zone, records)
-    write_questions(questions, records)
+    for apex, path in asks.items():
+        write_questions(path, records, f"example.{apex}")
     with tempfile.TemporaryDirectory(dir=room) as folder:
         os.chmod(folder, 0o755)
         servers = started(zone, folder, workers)
@@ -82,13 +84,14 @@ def over_udp(room, given, workers, records, loads):
         servers.append(Server("echo", [f"{room}/asks", "echo", str(port), str(workers)], port))
         try:
             servers[-1].wait()
-            for clients, outstanding in loads:
-                told = turns(servers, given.rounds, lambda server: asked(server, questions, clients, outstanding, given.seconds))
+            for clients, outstanding, *outside in loads:
+                apex = "org" if outside else "test"
+                told = turns(servers, given.rounds, lambda server: asked(server, asks[apex], clients, outstanding, given.seconds))
                 for name, rounds in told.items():
                     rate, spent, _, latency = middle(rounds)
                     lost = sum(each[2] for each in rounds)
-                    print(f"| {records:,} | {workers} | {clients}, {outstanding} | {name} | {rate:,.0f} | {spent:.2f} | {latency:.0f} | {lost:.0f} |", flush=True)
-                yield clients, outstanding, told
+                    print(f"| {records:,} | {workers} | {clients}, {outstanding}{', refused' if outside else ''} | {name} | {rate:,.0f} | {spent:.2f} | {latency:.0f} | {lost:.0f} |", flush=True)
+                yield f"{records:,} records, {clients} clients{', refused' if outside else ''}", told
         finally:
             for server in servers:
                 server.end()
@@ -101,22 +104,22 @@ def head():
 def udp(room, given):
     head()
     for records in (1000, 999_000):
-        for clients, _, told in over_udp(room, given, 1, records, ((20, 100), (1, 50))):
+        for what, told in over_udp(room, given, 1, records, ((20, 100), (1, 50), (20, 100, "outside")) if records == 1000 else ((20, 100), (1, 50))):
             own, spent, _, _ = middle(told["dnsd"])
             for name in peers_there():
                 other = middle(told[name])
-                judge(f"udp, {records:,} records, {clients} clients, processor time beside {name}", spent / other[1], 1)
-                at_least(f"udp, {records:,} records, {clients} clients, replies a second beside {name}", own, other[0])
+                judge(f"udp, {what}, processor time beside {name}", spent / other[1], 1)
+                at_least(f"udp, {what}, replies a second beside {name}", own, other[0])
             if records == 1000:
-                judge(f"udp, {records:,} records, {clients} clients, processor time beside the echo", spent / middle(told["echo"])[1], 1.35)
+                judge(f"udp, {what}, processor time beside the echo", spent / middle(told["echo"])[1], 1.35)
 
 
 def bursts(room, given):
     head()
     for workers, loads in ((1, ((60, 500),)), (4, ((60, 500), (20, 100)))):
-        for clients, outstanding, told in over_udp(room, given, workers, 1000, loads):
+        for what, told in over_udp(room, given, workers, 1000, loads):
             own, spent, _, _ = middle(told["dnsd"])
-            what = f"bursts, {workers} workers, {clients} clients, {outstanding} outstanding"
+            what = f"bursts, {workers} worker{'s' if workers > 1 else ''}, {what}"
             for name in peers_there():
                 at_least(f"{what}, replies a second beside {name}", own, middle(told[name])[0])
             judge(f"{what}, queries lost", sum(each[2] for each in told["dnsd"]), 0)

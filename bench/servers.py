@@ -200,9 +200,9 @@ def write_zone(path, records):
             file.write(f"h{i}.example.test. 3600 IN " + (f"CNAME h{i - 1}.example.test.\n" if i % 10 == 9 else f"A 192.0.2.{i % 256}\n"))
 
 
-def write_questions(path, records):
-    """100,000 queries of that zone, type A, for dnsperf: by turns a name that exists, one that doesn't, and an alias."""
+def write_questions(path, records, apex="example.test"):
+    """100,000 queries of that zone, type A, for dnsperf: by turns a name that exists, one that doesn't, and an alias; or of such names below another apex."""
     with open(path, "w", encoding="ascii") as file:
         for i in range(100_000):
             at = i * 7919 % (records - 2) // 10 * 10
-            file.write((f"h{at}", f"x{at}", f"h{at + 9}")[i % 3] + ".example.test A\n")
+            file.write((f"h{at}", f"x{at}", f"h{at + 9}")[i % 3] + f".{apex} A\n")
