@@ -1,7 +1,7 @@
 /* Sends updates of example.test to a server on 127.0.0.1 by UDP, so many outstanding: by turns an address at a name of its own is added, and the one that was added 50
    before is deleted, so that each makes a version. It ends after so many seconds, or after so many updates where these aren't 0, and prints how many were answered, in
    how many seconds, and how many a second. Status 1 where one is told another code than NOERROR, or no reply comes within ten seconds.
-   Usage: sending PORT OUTSTANDING SECONDS UPDATES. bench/store.sh makes it by a C compiler. */
+   Usage: sending PORT OUTSTANDING SECONDS UPDATES [RATE], at most so many a second. bench/store.sh and bench/peers.py make it by a C compiler. */
 #include <arpa/inet.h>
 #include <stdio.h>
 #include <stdlib.h>
@@ -37,15 +37,16 @@ static int fails(const char *why, unsigned long number) {
 }
 
 int main(int count, char **words) {
-    if (count != 5) return fails("PORT OUTSTANDING SECONDS UPDATES are wanted", 0);
+    if (count != 5 && count != 6) return fails("PORT OUTSTANDING SECONDS UPDATES [RATE] are wanted", 0);
     unsigned long most = strtoul(words[2], 0, 10), all = strtoul(words[4], 0, 10), sent = 0, answered = 0;
+    double rate = count == 6 ? atof(words[5]) : 0;
     struct sockaddr_in to = {AF_INET, htons(atoi(words[1])), {htonl(INADDR_LOOPBACK)}, {0}};
     struct timeval longest = {10, 0};
     int client = socket(AF_INET, SOCK_DGRAM, 0);
     if (connect(client, (struct sockaddr *)&to, sizeof to) || setsockopt(client, SOL_SOCKET, SO_RCVTIMEO, &longest, sizeof longest)) return fails("no socket", 0);
     double began = now(), end = all ? began + 1e9 : began + atof(words[3]);
     while (answered < sent || (now() < end && (!all || sent < all))) {
-        while (sent - answered < most && now() < end && (!all || sent < all)) {
+        while (sent - answered < most && now() < end && (!all || sent < all) && (!rate || sent < rate * (now() - began))) {
             unsigned char octets[128];
             unsigned long number = sent / 2;
             /* of the first ones nothing is to be deleted, so another is added */
@@ -54,6 +55,8 @@ int main(int count, char **words) {
             if (send(client, octets, size, 0) < 0) return fails("no update is sent", sent);
             sent++;
         }
+        /* with a rate, the next one's time may not have come */
+        if (sent == answered) continue;
         unsigned char reply[512];
         ssize_t size = recv(client, reply, sizeof reply, 0);
         if (size < 12) return fails("no reply comes", answered);

@@ -1,63 +1,32 @@
 #!/usr/bin/env python3
-"""Asks a running `dnsd serve` for a zone of so many records as AXFR over loopback (RFC 5936), by turns with NSD where it is installed, and prints for each
-run the processor time that the server took, the octets and the records that came, and the server's memory before the first run and behind each; and last
-the least and the middle of each server's times, and how dnsd's stand to NSD's. A run is as many transfers as have a million records, and its time is of one.
+"""Asks a running `dnsd serve` for a zone of so many records as AXFR over loopback (RFC 5936), by turns with Knot and NSD where these are installed, and prints for each
+run the processor time that the server took, the time of the clock, the octets and the records that came, and the server's memory before the first run and after each;
+and last the least and the middle of each server's times, and how dnsd's stand to the others'. A run is as many transfers as have a million records, and its time is of one.
 Usage: [DNSD=PROGRAM] bench/serve_transfer.py [RECORDS [RUNS]], by default 1000000 records and 5 runs. `make dnsd` builds the program."""
-import glob
 import os
-import shutil
 import socket
 import statistics
-import subprocess
 import sys
 import tempfile
 import time
 
-records = int(sys.argv[1]) if len(sys.argv) > 1 else 1_000_000
-runs = int(sys.argv[2]) if len(sys.argv) > 2 else 5
-root = os.path.dirname(os.path.dirname(os.path.abspath(__file__)))
-program = os.environ.get("DNSD", f"{root}/crates/dnsd/out/dnsd")
-nsd = shutil.which("nsd", path=os.environ["PATH"] + ":/usr/sbin:/sbin")
-times = max(1, 1_000_000 // records)
+from servers import SOA, started, turns
+
+QUERY = b"\x12\x34\0\0\0\1\0\0\0\0\0\0" + SOA[:-4]
 
 
-def write_zone(file):
+def write_zone(path, records):
     """An SOA, an NS, and hosts in canonical order."""
-    file.write("example.test. 3600 IN SOA ns1.example.test. admin.example.test. 1 7200 900 1209600 300\n")
-    file.write("example.test. 3600 IN NS ns1.example.test.\n")
-    for i in range(records - 2):
-        file.write(f"host{i:07d}.example.test. 3600 IN A 198.51.100.{i % 256}\n")
-    file.flush()
+    with open(path, "w", encoding="ascii") as file:
+        file.write("example.test. 3600 IN SOA ns1.example.test. admin.example.test. 1 7200 900 1209600 300\n")
+        file.write("example.test. 3600 IN NS ns1.example.test.\n")
+        for i in range(records - 2):
+            file.write(f"host{i:07d}.example.test. 3600 IN A 198.51.100.{i % 256}\n")
 
 
-def processes(pid):
-    """A process and those below it."""
-    for path in glob.glob(f"/proc/{pid}/task/*/children"):
-        with open(path) as file:
-            for child in file.read().split():
-                yield from processes(child)
-    yield pid
-
-
-def processor_seconds(pid):
-    """The time that all threads of a server have run (Linux, /proc/PID/task/TID/schedstat)."""
-    spent = 0
-    for one in processes(pid):
-        for path in glob.glob(f"/proc/{one}/task/*/schedstat"):
-            with open(path) as file:
-                spent += int(file.read().split()[0])
-    return spent / 1e9
-
-
-def memory(pid):
-    with open(f"/proc/{pid}/status") as file:
-        return next(line.split()[1] for line in file if line.startswith("VmRSS"))
-
-
-def transfer(port):
+def transfer(port, records):
     """Asks for the zone, and counts octets and answers up to the message that has the last of them."""
-    name = b"\7example\4test\0"
-    request = b"\x12\x34\0\0\0\1\0\0\0\0\0\0" + name + b"\0\xfc\0\1"
+    request = QUERY + b"\0\xfc\0\1"
     octets = answers = 0
     with socket.create_connection(("127.0.0.1", port)) as stream:
         stream.sendall(len(request).to_bytes(2, "big") + request)
@@ -72,66 +41,47 @@ def transfer(port):
     return octets, answers
 
 
-def start_dnsd(folder):
-    server = subprocess.Popen([program, "serve", "--listen", "127.0.0.1:0", "--workers", "1", f"{folder}/zone"], stderr=subprocess.PIPE, text=True)
-    line = server.stderr.readline()
-    if not line.startswith("listening on "):
-        sys.exit(f"serve_transfer: {line}")
-    return server, int(line.split()[2].rstrip(":").rpartition(":")[2])
+def measure(server, records):
+    """Processor time and time of the clock of a transfer, in seconds."""
+    times = max(1, 1_000_000 // records)
+    before, began = server.seconds(), time.monotonic()
+    for _ in range(times):
+        octets, answers = transfer(server.port, records)
+    spent, took = (server.seconds() - before) / times, (time.monotonic() - began) / times
+    print(f"{server.name}, {spent:.4f} s of processor, {took:.4f} s of the clock, {octets} octets, {answers} answers, memory {server.memory()} KiB", flush=True)
+    return spent, took
 
 
-def start_nsd(folder):
-    """NSD of one server, once it answers by TCP."""
-    with socket.create_server(("127.0.0.1", 0)) as free:
-        port = free.getsockname()[1]
-    with open(f"{folder}/nsd.conf", "w") as file:
-        file.write(f"""server:
-    ip-address: 127.0.0.1@{port}
-    username: ""
-    server-count: 1
-    zonesdir: "{folder}"
-    xfrdir: "{folder}"
-    database: ""
-    zonelistfile: "{folder}/zone.list"
-    xfrdfile: "{folder}/xfrd.state"
-    pidfile: ""
-remote-control:
-    control-enable: no
-zone:
-    name: example.test
-    zonefile: zone
-    provide-xfr: 127.0.0.1 NOKEY
-""")
-    server = subprocess.Popen([nsd, "-d", "-c", f"{folder}/nsd.conf"], stderr=subprocess.DEVNULL)
-    for _ in range(600):
-        try:
-            socket.create_connection(("127.0.0.1", port), timeout=1).close()
-            return server, port
-        except OSError:
-            time.sleep(0.1)
-    sys.exit("serve_transfer: nsd doesn't listen")
-
-
-servers, took = {}, {}
-with tempfile.TemporaryDirectory() as folder:
-    with open(f"{folder}/zone", "w") as zone:
-        write_zone(zone)
+def compare(room, records, runs):
+    """Prints each run and the least and the middle of each server's times, which it gives by name: seconds of the processor, and of the clock."""
+    zone = f"{room}/zone{records}"
+    write_zone(zone, records)
+    servers = started(zone, room)
     try:
-        for name, start in (("dnsd", start_dnsd), *((("nsd", start_nsd),) if nsd else ())):
-            servers[name], took[name] = start(folder), []
-            print(f"{name}: {records} records, memory {memory(servers[name][0].pid)} KiB")
-        for run in range(runs):
-            for name, (server, port) in servers.items():
-                before = processor_seconds(server.pid)
-                for _ in range(times):
-                    octets, answers = transfer(port)
-                took[name].append((processor_seconds(server.pid) - before) / times)
-                print(f"run {run + 1}: {name}, {took[name][-1]:.4f} s of processor, {octets} octets, {answers} answers, memory {memory(server.pid)} KiB", flush=True)
+        for server in servers:
+            print(f"{server.name}: {records} records, memory {server.memory()} KiB")
+        told = turns(servers, runs, lambda server: measure(server, records))
     finally:
-        for server, _ in servers.values():
-            server.terminate()
-            server.wait()
-for name, all_of in took.items():
-    print(f"{name}: {min(all_of):.4f} s at least, {statistics.median(all_of):.4f} in the middle")
-if "nsd" in took:
-    print(f"dnsd's of nsd's: least {min(took['dnsd']) / min(took['nsd']):.2f}, middle {statistics.median(took['dnsd']) / statistics.median(took['nsd']):.2f}")
+        for server in servers:
+            server.end()
+    for name, all_of in told.items():
+        spent, took = zip(*all_of)
+        print(f"{name}: {min(spent):.4f} s of processor at least, {statistics.median(spent):.4f} in the middle; of the clock {min(took):.4f}, {statistics.median(took):.4f}")
+    for name in told:
+        if name == "dnsd":
+            continue
+        own, others = ([spent for spent, _ in told[one]] for one in ("dnsd", name))
+        print(f"dnsd's of {name}'s, of processor: least {min(own) / min(others):.2f}, middle {statistics.median(own) / statistics.median(others):.2f}")
+    return told
+
+
+def main():
+    records = int(sys.argv[1]) if len(sys.argv) > 1 else 1_000_000
+    runs = int(sys.argv[2]) if len(sys.argv) > 2 else 5
+    with tempfile.TemporaryDirectory() as room:
+        os.chmod(room, 0o755)
+        compare(room, records, runs)
+
+
+if __name__ == "__main__":
+    main()

@@ -1,5 +1,6 @@
 // The mean latency of queries over TCP: PORT CONNECTIONS OUTSTANDING MILLISECONDS. On each connection so many queries are outstanding; each reply is followed by the
-// next query at once. It never sleeps, so that its own waiting isn't measured. Prints nanoseconds, and how many replies came.
+// next query at once. It never sleeps, so that its own waiting isn't measured. Where no reply has come by then, it waits ten seconds for one. Prints nanoseconds, and how
+// many replies came.
 #include <arpa/inet.h>
 #include <netinet/tcp.h>
 #include <stdint.h>
@@ -78,8 +79,8 @@ int main(int count, char **words) {
         for (int k = 0; k < outstanding; k++) it->sent[k] = now();
         send_queries(it, outstanding);
     }
-    uint64_t sum = 0, replies = 0, end = now() + length;
-    while (now() < end)
+    uint64_t sum = 0, replies = 0, end = now() + length, last = end + 10000000000u;
+    while (now() < (replies ? end : last))
         for (int i = 0; i < connections; i++) replies += (uint64_t)take(&clients[i], outstanding, &sum);
     if (!replies) fail("no reply came");
     printf("%llu %llu\n", (unsigned long long)(sum / replies), (unsigned long long)replies);

@@ -1,7 +1,7 @@
 #!/usr/bin/env python3
 """Tries a running `dnsd serve --store DIR` whose directory is moved, removed, or replaced by another one, or whose journal is: updates are told NOERROR only where a
 start of DIR would find them. While DIR isn't there each update that would change the zone gets SERVFAIL, and one line of the log says why; queries go on. Once it is
-moved back updates are written again, and are there at the next start. In a directory that was put in its place nothing is written.
+moved back updates are written again, as another line says, and are there at the next start; and so a second time. In a directory that was put in its place nothing is written.
 Usage: [DNSD=PROGRAM] tests/moved_store.py, by default crates/dnsd/out/dnsd. It takes some seconds; status 1 where one failed. It listens on 127.0.0.1 alone."""
 import os
 import shutil
@@ -85,7 +85,7 @@ def replaced_by_a_store(room):
 
 
 def journal_removed(room):
-    os.mkdir(f"{room}/moved")
+    os.makedirs(f"{room}/moved", exist_ok=True)
     os.rename(f"{room}/store/journal", f"{room}/moved/journal")
 
 
@@ -111,29 +111,30 @@ def tried(says, lose, mend):
             codes = client.codes(1, UPDATES)
             told(codes == {0: UPDATES}, f"{says}: before, the codes are {codes}")
             server.drain()
-            lose(room)
-            other = contents(f"{room}/store") if os.path.isdir(f"{room}/store") else None
-            codes = client.codes(1001, UPDATES)
-            said = server.drain()
-            told(codes == {2: UPDATES}, f"{says}: {UPDATES} updates then have the codes {codes}")
-            told(said.count("store: cannot write updates: ") == 1 and said.count("moved or removed") == 1, f"{says}: the log says so in one line")
-            told(client.has(1) and not client.has(1001), f"{says}: queries are answered from the zone as it was")
-            if other is not None:
-                told(contents(f"{room}/store") == other, f"{says}: nothing is written to what stands there")
-            codes = {}
-            if mend:
-                mend(room)
-                codes = client.codes(2001, UPDATES)
+            for time in (1, 2) if mend else (1,):
+                lose(room)
+                other = contents(f"{room}/store") if os.path.isdir(f"{room}/store") else None
+                codes = client.codes(1000 * time + 1, UPDATES)
                 said = server.drain()
-                told(codes == {0: UPDATES} and "store: updates are written again" in said, f"{says}: once it is back the codes are {codes}, and the log says so")
+                told(codes == {2: UPDATES}, f"{says}, time {time}: {UPDATES} updates then have the codes {codes}")
+                told(said.count("store: cannot write updates: ") == 1 and said.count("moved or removed") == 1, f"{says}, time {time}: the log says so in one line")
+                told(client.has(1) and not client.has(1000 * time + 1), f"{says}, time {time}: queries are answered from the zone as it was")
+                if other is not None:
+                    told(contents(f"{room}/store") == other, f"{says}, time {time}: nothing is written to what stands there")
+                if mend:
+                    mend(room)
+                    codes = client.codes(1000 * time + 5001, UPDATES)
+                    said = server.drain()
+                    told(codes == {0: UPDATES}, f"{says}, time {time}: once it is back the codes are {codes}")
+                    told(said.count("store: updates are written again") == 1, f"{says}, time {time}: the log says in one line that updates are written again")
         finally:
             client.close()
             server.kill()
         if mend:
             server = crash_server.Served(program, f"{room}/store", f"{room}/zone", options)
             client = Client(server.port)
-            there = [sum(client.has(number) for number in range(first, first + UPDATES)) for first in (1, 1001, 2001)]
-            told(there == [UPDATES, 0, UPDATES], f"{says}: a start then has {there} of them, of {UPDATES} each")
+            there = [sum(client.has(number) for number in range(first, first + UPDATES)) for first in (1, 1001, 6001, 2001, 7001)]
+            told(there == [UPDATES, 0, UPDATES, 0, UPDATES], f"{says}: a start then has {there} of them, of {UPDATES} each")
             client.close()
             server.kill()
 

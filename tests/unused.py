@@ -48,51 +48,6 @@ PUBLIC = {
     "zone_server::serve_one": "public call: an update or a transfer answered",
 }
 
-# Laws that docs/PROVED.md doesn't name: statements on definitions, worked examples among them, that nothing calls.
-LAWS = {
-    "cell_core": "only_grows owners_keep_their_value owned_is_not_buried last_is_not_buried buried_was_published "
-    "owned_was_published up_gives_that_number load_gives_the_last follows_goes_on runs_tell_what_is_shown "
-    "clones_give_that_number rest_was_buried runs_only_add no_slot_after_64_probes run_examples "
-    "word_steps_show_the_cell word_runs_show_runs words_only_grow owner_finds_its_value buried_is_unowned "
-    "buried_once weak_owner_sees_its_version rest_is_buried_and_free load_gives_what_was_in_w "
-    "steps_are_a_function word_examples weak_examples no_word_overflows calls_go_on",
-    "dns_name": "same_but_for_case under_ancestors stored_names canonical_order",
-    "dns_rdata": "read_again strings_in_a_row names_of_data records_in_order serial_examples serials_round_the_ring",
-    "journal": "one_frame what_is_written_is_read octets_are_read_once each_cut_is_a_beginning "
-    "what_was_synced_is_read_first no_later_frame_is_torn",
-    "lookup_core": "examples_of_wildcards examples_of_answers examples_of_chains names_without_existence chains_are_short "
-    "owners_are_reached additions_are_addresses",
-    "master_file": "examples_of_records comments_change_no_zone blank_lines_change_no_zone line_ends_change_no_zone "
-    "parentheses_change_no_zone written_zone_has_an_entry_a_record written_zone_is_read_back "
-    "text_without_a_fault_is_a_zone no_text_wants_memory",
-    "message_laws": "limits_of_replies frame_is_taken_again question_in_full_is_read record_is_read_again data_is_read_again "
-    "update_keeps_its_header one_record_fits records_are_taken_from_the_front read_examples update_examples "
-    "opt_examples opt_update_examples opt_reply_examples silent_is_short_or_reply opt_is_read_again",
-    "notify": "runs_are_courses",
-    "record_text": "examples_of_numbers examples_of_any_type addresses_are_spelt what_is_read_is_data",
-    "serve_core": "replies_by_cases",
-    "shared_tree": "one_key_changes",
-    "store_compaction": "trails_end_their_stores starts_have_their_trails tended_stores_have_the_same_start "
-    "compactions_keep_the_choice",
-    "store_recovery": "what_is_replayed_is_held what_is_resumed_is_held damage_takes_nothing_in_front one_choice "
-    "begun_from_is_served other_apex_is_refused compacted_is_the_same what_a_folder_means_is_started "
-    "what_was_synced_is_replayed_first each_cut_is_a_replay",
-    "transfer_core": "examples_of_lists examples_of_taken_lists examples_of_broken_lists examples_of_wrong_bases "
-    "examples_of_no_zones examples_of_first_faults sizes_of_what_is_kept full_lists_are_taken "
-    "incremental_lists_are_taken first_faults_are_reported messages_tell_their_records examples_of_windows "
-    "examples_of_changes serials_of_a_window_differ windows_are_longest_runs",
-    "transfer_in": "lists_are_received datagrams_are_received",
-    "update_core": "examples_of_prerequisites examples_of_sets examples_of_prescan examples_of_verdicts "
-    "examples_of_taken_updates examples_of_adds examples_of_deletions examples_of_serials "
-    "prerequisites_change_nothing replays_agree",
-    "wire_names": "one_fault name_at_is table_stays written_is_spelt",
-    "world_laws": "plays_are_runs updates_are_answered refused_lines_change_nothing versions_before_the_kept_are_buried "
-    "lines_take_one_step updates_are_answered_in_turn versions_are_held burials_are_reported_once",
-    "zone_lexing": "items_are_the_text entries_are_in_order lines_are_read_back comments_change_nothing "
-    "blank_lines_change_nothing line_ends_are_alike parentheses_join_lines examples_of_places",
-    "zone_tree": "soa_at_apex example_is_a_zone names_that_exist",
-}
-
 HEAD = re.compile(r"^(?: {4})?(?:pub(?:\([^)]*\))? )?(?:unsafe )?(?:const )?(fn|struct|enum|union|trait|type|const|static) (\w+)")
 CONTRACT = re.compile(r"\b(?:requires|ensures|keeps)\b(?: \w+)? \{|\bprove!\(|\bghost\b")
 WORD = re.compile(r"[A-Za-z_]\w*")
@@ -467,9 +422,8 @@ def main():
         print(*[f"{item.key()}  {item.path}:{item.lines[0] + 1}" for item in found if not item.public], sep="\n")
     found = {item.key(): item for item in found if item.public}
     known = {item.key() for item in program.items}
-    left = {f"{crate}::{name}" for crate, names in LAWS.items() for name in names.split()}
-    faults = [f"{key}  {item.path}:{item.lines[0] + 1}" for key, item in found.items() if key not in left]
-    faults += [f"{key} is in the list of this script, and isn't there" for key in [*PUBLIC, *sorted(left)] if key not in known]
+    faults = [f"{key}  {item.path}:{item.lines[0] + 1}" for key, item in found.items()]
+    faults += [f"{key} is in the list of this script, and isn't there" for key in PUBLIC if key not in known]
     for fault in faults:
         print(fault, file=sys.stderr)
     return 1 if faults else 0

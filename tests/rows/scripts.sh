@@ -308,6 +308,17 @@ next u => probe
 next u => prepare
 end
 
+# in a window of three the entries of serials 1 and 2 leave together, where a serial comes that is nearly half the ring after 3: that of the second
+# would be half of it away (RFC 1982, 3.2)
+far=c00c0006000100000e100022036e7331c00c0561646d696ec00c8000000200001c2000000384001275000000012c
+plays --keep 2 --window 3 <<end
+update ${add}4d => $taken
+update ${add}4e => $taken
+update ${add:0:60}$far => $taken
+load b => b 3
+ask b 123401000001000000000000${add:24:36} => 123485000001000100000000${add:24:36}$far
+end
+
 # what changed since serial 1 through two updates, from SOA to SOA (RFC 1995, 4): the SOAs behind the first point at its names, and the second
 # address at the first one's
 soa() { printf '%s' "c00c0006000100000e100018c02ac030000000${1}00001c2000000384001275000000012c"; }

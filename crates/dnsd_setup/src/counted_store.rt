@@ -1,7 +1,10 @@
 //! A store whose batches are counted.
+ghost use Rattle.std.specs.Prelude.{◌≡◌};
+
 use counters::{Counter, ServerCounters};
 use server_control::SharedWork;
 use std::alloc::Global;
+use std::marker::Model;
 use std::sync::Wait;
 use std::time::Clock;
 use update_batches::{UpdateStore, VersionUpdate};
@@ -9,6 +12,8 @@ use update_batches::{UpdateStore, VersionUpdate};
 /// A store, and where its batches are counted, if they are, with the time that the writing of each took, and where others see since when one has been under way.
 ///
 /// A batch is under way from when the store is tended before its updates are judged until it is tended again after their replies ([`UpdateStore`]).
+///
+/// A contract sees it as its store, so that what is proved of updates holds of that store.
 pub struct CountedStore<'a, S, C> {
     store: S,
     counters: Option<&'a ServerCounters>,
@@ -31,6 +36,12 @@ impl<'a, S: Drop, C> Drop for CountedStore<'a, S, C> {
     }
 }
 
+impl<'a, S, C> Model for CountedStore<'a, S, C> {
+    ghost Value = { S };
+
+    ghost view = { λ counted. counted.store };
+}
+
 impl<'a, S, C> CountedStore<'a, S, C> {
     /// A store whose batches are counted here, if they are, and are shown as work under way, if there is where to.
     pub fn new(
@@ -38,7 +49,9 @@ impl<'a, S, C> CountedStore<'a, S, C> {
         counters: Option<&'a ServerCounters>,
         work: Option<SharedWork>,
         clock: &'a C,
-    ) -> CountedStore<'a, S, C> {
+    ) -> CountedStore<'a, S, C>
+        ensures { result ≡ store }
+    {
         CountedStore {
             store,
             counters,
@@ -74,9 +87,9 @@ impl<S, C: Clock> CountedStore<'_, S, C> {
 impl<S: UpdateStore, C: Clock> UpdateStore for CountedStore<'_, S, C> {
     type Fault = S::Fault;
 
-    ghost has = { λ zone counted versions updates. S.has zone counted.store versions updates };
+    ghost has = { S.has };
 
-    ghost leaves = { λ zone old new updates. S.leaves zone old.store new.store updates };
+    ghost leaves = { S.leaves };
 
     fn tend<R: Wait>(&mut self, rt: &R, alloc: Global) {
         self.begin();
