@@ -242,6 +242,28 @@ dnsd_responses_total{rcode=\"REFUSED\"} 1
 dnsd_updates_total{rcode=\"REFUSED\"} 1
 dnsd_updates_refused_total{reason=\"permission\"} 1" update 'update add new.example.test 300 A 192.0.2.77'
 
+# What the system drops while the server is stopped: each datagram is counted as a query or as dropped.
+unserve
+workers=1 serve "$zone" --metrics "$web" --udp-buffer 4K
+python3 - "$port" "$server" <<'P'
+import os, signal, socket, sys, time
+port, server = map(int, sys.argv[1:])
+query = bytes.fromhex("000701000001000000000000") + b"\3web\7example\4test\0\0\1\0\1"
+with socket.socket(socket.AF_INET, socket.SOCK_DGRAM) as it:
+    it.connect(("127.0.0.1", port))
+    it.settimeout(1)
+    os.kill(server, signal.SIGSTOP)
+    time.sleep(0.2)
+    for _ in range(1000): it.send(query)
+    os.kill(server, signal.SIGCONT)
+    try:
+        while it.recv(4096): pass
+    except TimeoutError: pass
+P
+sleep 1.2
+dropped=$(sample "dnsd_udp_drops_total{address=\"127.0.0.1:$port\"}")
+check 'datagrams that the system dropped' 'some, 1000 with the queries' "$([ "${dropped:-0}" -gt 0 ] && echo some), $((${dropped:-0} + $(sample 'dnsd_queries_total{transport="udp",family="4"}'))) with the queries"
+
 # IPv6.
 unserve
 serve "$zone" --metrics "$web" --listen "[::1]:$port"
