@@ -52,23 +52,11 @@ pub fn answer_request<'c, Z: FirstZone, N: Naming>(
         Said::Silent => Answer::Silent,
         Said::Fault(head, code) => {
             let heading = Heading::header_alone(head);
-            Answer::Bytes(write_code_by(
-                names,
-                &heading,
-                code,
-                peer.transport,
-                out,
-            ))
+            Answer::Bytes(write_code_by(names, &heading, code, peer.transport, out))
         }
         Said::BadOpt(head, code, dnssec_ok) => {
             let heading = Heading::of_bad(head, &query.question, dnssec_ok);
-            Answer::Bytes(write_code_by(
-                names,
-                &heading,
-                code,
-                peer.transport,
-                out,
-            ))
+            Answer::Bytes(write_code_by(names, &heading, code, peer.transport, out))
         }
         Said::Query => {
             let Ok(strong) = cell.load(reader) else {
