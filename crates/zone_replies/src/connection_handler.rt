@@ -236,20 +236,21 @@ impl<'a, 's, Z: FirstZone, N: ServerName, L: ServiceLog> ConnectionHandler<'a, '
     }
 
     /// Writes the reply to a pending update at the front of `out`, with the code of [`outcome_at`], and logs it. Gives its length in octets.
-    fn reply_done<R: Wait>(&self, rt: &R, place: Place, done: UpdateResult, out: &mut [u8]) -> usize
+    fn reply_done<R: Wait>(
+        &mut self,
+        rt: &R,
+        place: Place,
+        done: UpdateResult,
+        out: &mut [u8],
+    ) -> usize
         requires room { message_limit ≤ length out.old }
+        ensures same { self.new ≡ self.old }
         ensures bound { (result ≤ message_limit) × (result ≤ length out.new) }
-        ensures octets { IsWritten self.now.peer place done (take result out.new) }
+        ensures octets { IsWritten self.old.peer place done (take result out.new) }
     {
         let outcome = outcome_at(place, &done);
         tell_update(rt, self.log, self.peer, self.from, outcome);
-        write_done(
-            &mut NameWriter::new(),
-            &done.asked,
-            outcome.code,
-            self.peer,
-            out,
-        )
+        write_done(&mut self.names, &done.asked, outcome.code, self.peer, out)
     }
 
     /// Submits an update of a peer that may update. `Later` where it is now pending, and its reply is made later. It gets a reply at once where it

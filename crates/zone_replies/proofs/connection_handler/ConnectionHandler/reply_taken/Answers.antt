@@ -15,6 +15,7 @@ use Rattle.zone_replies.specs.PendingUpdates.{known_at, place_in, IsLater, IsMad
 use Rattle.zone_replies.proofs.PendingLemmas.{left_all, left_grows}
 use Rattle.zone_replies.proofs.PendingRepliedLemmas.{meets_grows, taken_replied}
 use Rattle.zone_replies.proofs.connection_handler.ConnectionHandler.reply_taken.Goals as goal
+use Rattle.zone_replies.proofs.connection_handler.ConnectionHandler.reply_taken.Goals.{else-may-via-then-may+else-is_one, else-may-via-else-may}
 
 apart : (len : ℕ) → ◌≡◌ {A = Option (Reply Transfer)} (Some (One len)) None → ⊥
 apart len is = cc
@@ -38,8 +39,13 @@ invariant_of-self-then-is_one g c =
     let grown = meets_grows g.Z.FirstZone.zone c.self.inside.reader c.fetch.new.reader c.fetch.ensures.met.0 c.fetch.ensures.met.1 in
     left_all c.self.inside.reader c.fetch.new.reader grown c.self.inside.taken c.self.inside.asker c.fetch.result c.fetch.new.self c.fetch.ensures.rest c.self.invariant
 
-pub invariant_of-self-in-Ready : goal.invariant_of-self-in-Ready
-invariant_of-self-in-Ready g c =
+pub invariant_of-self-else-may : goal.invariant_of-self-else-may
+invariant_of-self-else-may g c =
+    let grown = meets_grows g.Z.FirstZone.zone c.self.inside.reader c.fetch.new.reader c.fetch.ensures.met.0 c.fetch.ensures.met.1 in
+    left_all c.self.inside.reader c.fetch.new.reader grown c.self.inside.taken c.self.inside.asker c.fetch.result c.fetch.new.self c.fetch.ensures.rest c.self.invariant
+
+pub invariant_of-self-else-is_one : goal.invariant_of-self-else-is_one
+invariant_of-self-else-is_one g c =
     let grown = meets_grows g.Z.FirstZone.zone c.self.inside.reader c.fetch.new.reader c.fetch.ensures.met.0 c.fetch.ensures.met.1 in
     left_all c.self.inside.reader c.fetch.new.reader grown c.self.inside.taken c.self.inside.asker c.fetch.result c.fetch.new.self c.fetch.ensures.rest c.self.invariant
 
@@ -51,14 +57,22 @@ invariant_of-self-in-Unknown g c =
 pub returns-else-may : goal.returns-else-may
 returns-else-may g c =
     let grown = meets_grows g.Z.FirstZone.zone c.self.inside.reader c.fetch.new.reader c.fetch.ensures.met.0 c.fetch.ensures.met.1 in
+    let peer : c.else-may.self.peer ≡ c.self.inside.peer = elim c.else-may.branch [ else-may-via-then-may+else-is_one w ↦ ap (λ (s : HandlerState). s.peer) w.self-is | else-may-via-else-may w ↦ ap (λ (s : HandlerState). s.peer) w.self-is ] in
+    let asker : c.else-may.self.asker ≡ c.self.inside.asker = elim c.else-may.branch [ else-may-via-then-may+else-is_one w ↦ ap (λ (s : HandlerState). s.asker) w.self-is | else-may-via-else-may w ↦ ap (λ (s : HandlerState). s.asker) w.self-is ] in
+    let submits : c.else-may.self.submits ≡ c.args.self.now.submits =
+    elim c.else-may.branch [ else-may-via-then-may+else-is_one w ↦ ap (λ (s : HandlerState). s.submits) w.self-is ∙ ap (λ (s : HandlerState). s.submits) c.self.view_is | else-may-via-else-may w ↦ ap (λ (s : HandlerState). s.submits) w.self-is ∙ ap (λ (s : HandlerState). s.submits) c.self.view_is ] in
+    let gone : EachGrows {T = Version} (known_at c.abandon.new.self.taken c.abandon.new.self.reader) (known_at c.fetch.new.self c.fetch.new.reader) =
+    elim c.else-may.branch [ else-may-via-then-may+else-is_one w ↦ subst (λ (s : HandlerState). EachGrows {T = Version} (known_at c.abandon.new.self.taken c.abandon.new.self.reader) (known_at s.taken s.reader)) w.self-is c.abandon.ensures.grows | else-may-via-else-may w ↦ subst (λ (s : HandlerState). EachGrows {T = Version} (known_at c.abandon.new.self.taken c.abandon.new.self.reader) (known_at s.taken s.reader)) w.self-is c.abandon.ensures.grows ] in
     record {
-      peer = c.abandon.ensures.peer ∙ ap (λ (s : HandlerState). s.peer) c.self.view_is;
-      asker = c.abandon.ensures.asker ∙ ap (λ (s : HandlerState). s.asker) c.self.view_is;
-      submits = c.abandon.ensures.submits ∙ ap (λ (s : HandlerState). s.submits) c.self.view_is;
+      peer = c.abandon.ensures.peer ∙ peer ∙ ap (λ (s : HandlerState). s.peer) c.self.view_is;
+      asker = c.abandon.ensures.asker ∙ asker ∙ ap (λ (s : HandlerState). s.asker) c.self.view_is;
+      submits = c.abandon.ensures.submits ∙ submits;
       grows =
           subst (λ (s : HandlerState). EachGrows {T = Version} (known_at c.abandon.new.self.taken c.abandon.new.self.reader) (known_at s.taken s.reader)) c.self.view_is
-          (each_more _ _ _ (left_grows c.self.inside.reader c.fetch.new.reader grown c.self.inside.taken c.self.inside.asker c.fetch.result c.fetch.new.self c.fetch.ensures.rest c.self.invariant) c.abandon.ensures.grows);
-      none = λ _. subst (λ (s : HandlerState). place_in c.abandon.new.self.taken s.asker ≡ None) c.self.view_is c.abandon.ensures.none;
+          (each_more _ _ _ (left_grows c.self.inside.reader c.fetch.new.reader grown c.self.inside.taken c.self.inside.asker c.fetch.result c.fetch.new.self c.fetch.ensures.rest c.self.invariant) gone);
+      none = λ _.
+          subst (λ (s : HandlerState). place_in c.abandon.new.self.taken s.asker ≡ None) c.self.view_is
+          (subst (λ (key : ℕ). place_in c.abandon.new.self.taken key ≡ None) asker c.abandon.ensures.none);
       bound = tt;
       replied = tt;
     }
@@ -89,16 +103,19 @@ returns-then-is_one g c =
     let may : c.in-Ready.done.asked.may ≡ true = sym c.may.ensures ∙ c.if-may.true in
     let permitted : c.self.inside.peer.may_update ≡ true = subst (λ (s : HandlerState). s.peer.may_update ≡ true) (sym c.self.view_is) c.requires.later.1 in
     let replied = taken_replied first c.self.inside.peer c.self.inside.taken c.self.inside.reader c.fetch.new.reader c.self.inside.asker c.fetch.ensures.met.0 c.in-Some.place c.in-Ready.done c.args.request.now c.reply_done.new.out c.reply_done.result c.self.invariant here c.fetch.ensures.met.1 reported alone may permitted c.reply_done.ensures.octets in
+    let same = c.reply_done.ensures.same in
     record {
-      peer = ap (λ (s : HandlerState). s.peer) c.self.view_is;
-      asker = ap (λ (s : HandlerState). s.asker) c.self.view_is;
-      submits = ap (λ (s : HandlerState). s.submits) c.self.view_is;
+      peer = ap (λ (s : HandlerState). s.peer) same ∙ ap (λ (s : HandlerState). s.peer) c.self.view_is;
+      asker = ap (λ (s : HandlerState). s.asker) same ∙ ap (λ (s : HandlerState). s.asker) c.self.view_is;
+      submits = ap (λ (s : HandlerState). s.submits) same ∙ ap (λ (s : HandlerState). s.submits) c.self.view_is;
       grows =
-          subst (λ (s : HandlerState). EachGrows {T = Version} (known_at c.fetch.new.self c.fetch.new.reader) (known_at s.taken s.reader)) c.self.view_is
-          (left_grows c.self.inside.reader c.fetch.new.reader grown c.self.inside.taken c.self.inside.asker c.fetch.result c.fetch.new.self c.fetch.ensures.rest c.self.invariant);
+          subst (λ (s : HandlerState). EachGrows {T = Version} (known_at c.reply_done.new.self.taken c.reply_done.new.self.reader) (known_at s.taken s.reader)) c.self.view_is
+          (subst (λ (s : HandlerState). EachGrows {T = Version} (known_at s.taken s.reader) (known_at c.self.inside.taken c.self.inside.reader)) (sym same)
+          (left_grows c.self.inside.reader c.fetch.new.reader grown c.self.inside.taken c.self.inside.asker c.fetch.result c.fetch.new.self c.fetch.ensures.rest c.self.invariant));
       none = λ is. absurd (apart c.reply_done.result is);
       bound = λ len is. subst (λ (n : ℕ). (n ≤ message_limit) × (n ≤ length c.reply_done.new.out)) (same_len c.reply_done.result len is) c.reply_done.ensures.bound;
       replied = λ _.
-          subst (λ (s : HandlerState). IsMadeBy first s.peer (known_at s.taken s.reader s.asker) (known_at c.fetch.new.self c.fetch.new.reader s.asker) c.args.request.now (take c.reply_done.result c.reply_done.new.out ∷ [])) c.self.view_is
-          (waited (subst (λ (s : HandlerState). IsLater s.peer c.args.request.now) (sym c.self.view_is) c.requires.later) replied);
+          subst (λ (s : HandlerState). IsMadeBy first s.peer (known_at s.taken s.reader s.asker) (known_at c.reply_done.new.self.taken c.reply_done.new.self.reader s.asker) c.args.request.now (take c.reply_done.result c.reply_done.new.out ∷ [])) c.self.view_is
+          (subst (λ (s : HandlerState). IsMadeBy first c.self.inside.peer (known_at c.self.inside.taken c.self.inside.reader c.self.inside.asker) (known_at s.taken s.reader c.self.inside.asker) c.args.request.now (take c.reply_done.result c.reply_done.new.out ∷ [])) (sym same)
+          (waited (subst (λ (s : HandlerState). IsLater s.peer c.args.request.now) (sym c.self.view_is) c.requires.later) replied));
     }
