@@ -1,11 +1,11 @@
 -- What is asked over HTTP (RFC 9112, 3).
 use Rattle.std.specs.Prelude.{◌≡◌, ℕ, ◌<◌, ◌≤◌, ◌⊎◌, List, length, codes, bytes_eq, not, if◌then◌else◌}
 use Rattle.httparse.specs.Grammar.{RequestHead, ReadsRequest, HasNoRequest}
-use Rattle.http_page.specs.declared.asked.Asked.{Asked}
-use Rattle.http_page.specs.declared.asked.Asked.TheVariants.{More, Page, Metrics, Health, Unknown, OtherMethod, Bad}
+use Rattle.http_page.specs.declared.asked.PageRequest.{PageRequest}
+use Rattle.http_page.specs.declared.asked.PageRequest.TheVariants.{More, Page, Metrics, Health, Unknown, OtherMethod, Bad}
 
 -- what a method and a target ask for
-abbrev pub asked_of : List ℕ → List ℕ → Asked
+abbrev pub asked_of : List ℕ → List ℕ → PageRequest
 asked_of method target =
     if not (bytes_eq method (codes "GET")) then OtherMethod
     else if bytes_eq target (codes "/") then Page
@@ -14,7 +14,7 @@ asked_of method target =
     else Unknown
 
 -- they begin with a request, and what its method and its target ask for is this
-abbrev pub Asks : List ℕ → Asked → Type 0
+abbrev pub Asks : List ℕ → PageRequest → Type 0
 Asks octets asked = (head : RequestHead) × (rest : List ℕ) × ReadsRequest octets head rest × (asked ≡ asked_of head.method head.target)
 
 -- they begin with no request, and there are as many as a head may have; or each that they begin with has too many fields
@@ -25,7 +25,7 @@ IsBad octets =
 
 -- what octets ask for: more of them, where they begin with no request and are fewer than a head may have; nothing; or what the request
 -- asks for that they begin with
-abbrev pub IsAsked : List ℕ → Asked → Type 0
+abbrev pub IsAsked : List ℕ → PageRequest → Type 0
 IsAsked octets More = HasNoRequest octets × (length octets < 4096)
 IsAsked octets Bad = IsBad octets
 IsAsked octets asked = Asks octets asked

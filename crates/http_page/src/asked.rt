@@ -13,7 +13,7 @@ const MAX_FIELDS: usize = 64;
 
 /// What a request asks for.
 #[derive(Clone, Copy, Debug, PartialEq, Eq)]
-pub enum Asked {
+pub enum PageRequest {
     /// Its head isn't whole yet.
     More,
     /// `GET /`: the page for a person.
@@ -31,30 +31,30 @@ pub enum Asked {
 }
 
 /// What octets ask for, by the head of a request that they begin with (RFC 9112, 3).
-pub fn asked_by(octets: &[u8]) -> Asked
+pub fn asked_by(octets: &[u8]) -> PageRequest
     ensures { IsAsked octets.now result }
 {
     let mut spans = [EMPTY_HEADER_SPAN; MAX_FIELDS];
     match parse_request(octets, &mut spans) {
         Ok(Status::Complete(head)) => asked_of(head.method.of(octets), head.path.of(octets)),
-        Ok(Status::Partial) if octets.len() < MAX_HEAD => Asked::More,
-        Ok(Status::Partial) | Err(_) => Asked::Bad,
+        Ok(Status::Partial) if octets.len() < MAX_HEAD => PageRequest::More,
+        Ok(Status::Partial) | Err(_) => PageRequest::Bad,
     }
 }
 
 /// What a method and a path ask for.
-fn asked_of(method: &[u8], path: &[u8]) -> Asked
+fn asked_of(method: &[u8], path: &[u8]) -> PageRequest
     ensures { result ≡ asked_of method.now path.now }
 {
     if method != b"GET".as_slice() {
-        Asked::OtherMethod
+        PageRequest::OtherMethod
     } else if path == b"/".as_slice() {
-        Asked::Page
+        PageRequest::Page
     } else if path == b"/metrics".as_slice() {
-        Asked::Metrics
+        PageRequest::Metrics
     } else if path == b"/healthz".as_slice() {
-        Asked::Health
+        PageRequest::Health
     } else {
-        Asked::Unknown
+        PageRequest::Unknown
     }
 }

@@ -13,7 +13,7 @@ mod overview;
 mod page;
 mod reply;
 
-pub use asked::{Asked, MAX_HEAD, asked_by};
+pub use asked::{MAX_HEAD, PageRequest, asked_by};
 pub use graph::Graph;
 pub use health::{Health, MAX_BUSY, health_of};
 pub use overview::{Line, Overview, Secondary};

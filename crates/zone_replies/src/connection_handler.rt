@@ -14,7 +14,7 @@ ghost use Rattle.zone_server.specs.declared.open_ticket.WaitingTicket.{WaitingTi
 ghost use Rattle.serve_core.specs.Transport.{room_of};
 ghost use Rattle.zone_replies.specs.PendingUpdates.{known_at, place_in, with_more, IsLater, IsMadeBy, IsWritten};
 
-use crate::pending_updates::{PendingUpdate, PendingUpdates, Place, outcome_at};
+use crate::pending_updates::{PendingUpdate, PendingUpdates, ReplyPlace, outcome_at};
 use crate::transfer::Transfer;
 use crate::transfer_reply::begin_transfer;
 use dns_engine::{FirstZone, VersionReader};
@@ -236,7 +236,13 @@ impl<'a, 's, Z: FirstZone, N: ServerName, L: ServiceLog> ConnectionHandler<'a, '
     }
 
     /// Writes the reply to a pending update at the front of `out`, with the code of [`outcome_at`], and logs it. Gives its length in octets.
-    fn reply_done<R: Wait>(&self, rt: &R, place: Place, done: UpdateResult, out: &mut [u8]) -> usize
+    fn reply_done<R: Wait>(
+        &self,
+        rt: &R,
+        place: ReplyPlace,
+        done: UpdateResult,
+        out: &mut [u8],
+    ) -> usize
         requires room { message_limit ≤ length out.old }
         ensures bound { (result ≤ message_limit) × (result ≤ length out.new) }
         ensures octets { IsWritten self.now.peer place done (take result out.new) }
