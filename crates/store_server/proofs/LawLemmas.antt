@@ -19,7 +19,7 @@ use Rattle.store_recovery.specs.Replay.{AreRead}
 use Rattle.store_recovery.specs.Start.{IsStarted}
 use Rattle.store_compaction.specs.declared.writer.StoreWriter.{StoreWriter}
 use Rattle.store_compaction.specs.RecentUpdates.{last_in}
-use Rattle.store_compaction.specs.Writer.{log_of, trail_of}
+use Rattle.store_compaction.specs.Writer.{log_of, recent_of}
 use Rattle.store_compaction.proofs.JudgedLemmas.{last_more}
 use Rattle.store_compaction.specs.Kept.{CompactedState}
 use Rattle.store_compaction.specs.Crash.{Leaves}

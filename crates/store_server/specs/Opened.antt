@@ -11,7 +11,7 @@ use Rattle.update_batches.specs.Batch.{newest_of}
 use Rattle.store_recovery.specs.declared.start.Recovery.{Recovery}
 use Rattle.store_compaction.specs.declared.writer.StoreWriter.{StoreWriter}
 use Rattle.store_compaction.specs.RecentUpdates.{last_in}
-use Rattle.store_compaction.specs.Writer.{trail_of}
+use Rattle.store_compaction.specs.Writer.{recent_of}
 use Rattle.store_compaction.specs.Stands.{Stands}
 use Rattle.store_server.specs.declared.resume.OpenStore.{OpenStore}
 use Rattle.store_server.specs.Started.{GoesOn, IsCreatedStore}
@@ -29,4 +29,4 @@ pub record WritesOn (first : Version) (later : List Version) (writer : StoreWrit
   pub updates : List Update
   pub k : ℕ
   pub is_present : Stands written synced text batches zone updates k writer None
-  pub last : last_in (trail_of writer) ≡ newest_of first later
+  pub last : last_in (recent_of writer) ≡ newest_of first later

@@ -7,7 +7,7 @@ ghost use Rattle.journal.specs.Frame.{body_limit};
 ghost use Rattle.update_batches.specs.declared.version_update.VersionUpdate.{VersionUpdate};
 ghost use Rattle.store_compaction.specs.RecentUpdates.{followed};
 ghost use Rattle.update_batches.specs.Batch.{versions_in, updates_of};
-ghost use Rattle.store_compaction.specs.Writer.{trail_of as trail_in};
+ghost use Rattle.store_compaction.specs.Writer.{recent_of as recent_in};
 ghost use Rattle.store_server.specs.Opened.{IsGiven, WritesOn};
 
 use crate::resume::OpenStore;
@@ -30,9 +30,9 @@ pub fn resume_store<R: Wait>(
     ensures later { IfOk result (λ r. r.1.items ≡ store.later.items) }
     ensures served { IfOk result (λ r. IsFirst r.0.zone r.0 × AreNext r.0 r.1.items) }
     ensures writes { IfOk result (λ r. WritesOn r.0 r.1.items r.2) }
-    ensures keep { IfOk result (λ r. (trail_in r.2).keep ≡ min keep KEPT) }
-    ensures trail { IfOk result (λ r. (steps : List VersionUpdate) × (versions_in steps ≡ store.later.items) × (updates_of steps ≡ store.updates.items)
-        × (trail_in r.2 ≡ followed (record { oldest = store.first; steps = []; keep = min keep KEPT }) steps)) }
+    ensures keep { IfOk result (λ r. (recent_in r.2).keep ≡ min keep KEPT) }
+    ensures recent { IfOk result (λ r. (steps : List VersionUpdate) × (versions_in steps ≡ store.later.items) × (updates_of steps ≡ store.updates.items)
+        × (recent_in r.2 ≡ followed (record { oldest = store.first; steps = []; keep = min keep KEPT }) steps)) }
 {
     let OpenStore {
         head,
@@ -45,12 +45,12 @@ pub fn resume_store<R: Wait>(
         return Err(AllocError);
     };
     let later = SharedVersion::all(alloc, later)?;
-    let trail = trail_of(rt, alloc, &first, &later, &updates, keep)?;
-    Ok((first, later, StoreWriter::of(head, log, trail)))
+    let recent = recent_of(rt, alloc, &first, &later, &updates, keep)?;
+    Ok((first, later, StoreWriter::of(head, log, recent)))
 }
 
 /// The recent updates of versions, each but the first with the update that made it, of which `keep` older ones are kept.
-fn trail_of<R: Wait>(
+fn recent_of<R: Wait>(
     rt: &R,
     alloc: Global,
     first: &SharedVersion,
@@ -60,10 +60,10 @@ fn trail_of<R: Wait>(
 ) -> Result<RecentUpdates, AllocError>
     requires short { All (λ messages. length (request_octets messages) < body_limit) updates.now }
     requires many { length later.now ≡ length updates.now }
-    ensures { IfOk result (λ trail. (steps : List VersionUpdate) × (versions_in steps ≡ later.now) × (updates_of steps ≡ updates.now)
-        × (trail ≡ followed (record { oldest = first.now; steps = []; keep = min keep KEPT }) steps)) }
+    ensures { IfOk result (λ recent. (steps : List VersionUpdate) × (versions_in steps ≡ later.now) × (updates_of steps ≡ updates.now)
+        × (recent ≡ followed (record { oldest = first.now; steps = []; keep = min keep KEPT }) steps)) }
 {
-    let mut trail = RecentUpdates::of(alloc, first.share(rt), keep)?;
-    trail.follow(steps_of(rt, alloc, later, updates)?);
-    Ok(trail)
+    let mut recent = RecentUpdates::of(alloc, first.share(rt), keep)?;
+    recent.follow(steps_of(rt, alloc, later, updates)?);
+    Ok(recent)
 }
