@@ -1,7 +1,7 @@
 //! Starting a server whose updates survive a restart.
 ghost use Rattle.std.specs.Prelude.{IfOk};
 ghost use Rattle.dnsd_setup.specs.Starts.{CanStart};
-ghost use Rattle.store_server.specs.Opened.{IsGiven};
+ghost use Rattle.store_server.specs.OpenStore.{IsGiven};
 
 use crate::started_zone::{StartedStore, StartedZone};
 use crate::zone_file::tell_zone;

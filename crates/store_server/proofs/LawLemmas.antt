@@ -29,7 +29,7 @@ use Rattle.store_compaction.proofs.LawLemmas.{kept_recovered}
 use Rattle.store_server.specs.declared.served.LoggedStore.{LoggedStore}
 use Rattle.store_server.specs.declared.served.ServerStore.{ServerStore}
 use Rattle.store_server.specs.declared.served.ServerStore.TheVariants.{Store}
-use Rattle.store_server.specs.Opened.{WritesOn}
+use Rattle.store_server.specs.OpenStore.{WritesOn}
 use Rattle.store_server.specs.Served.{HasIn, LeavesIn}
 
 pub resumed_has : (first : Version) (later : List Version) (writer : StoreWriter FileDisk IoError) → (writes : WritesOn first later writer)

@@ -40,7 +40,7 @@ use Rattle.store_compaction.proofs.MadeLemmas.{made_leads, read_behind, made_fir
 use Rattle.store_compaction.proofs.StandsLemmas.{none_some}
 use Rattle.store_server.specs.declared.resume.OpenStore.{OpenStore}
 use Rattle.store_server.specs.Started.{GoesOn, IsCreatedStore}
-use Rattle.store_server.specs.Opened.{IsGiven, WritesOn}
+use Rattle.store_server.specs.OpenStore.{IsGiven, WritesOn}
 use Rattle.store_server.proofs.RecoveredLemmas.{started_store}
 use Rattle.store_server.proofs.ChainLemmas.{chain, chain_long, held_chain, Behind, behind, renumbered, made_chain, changes_behind}
 

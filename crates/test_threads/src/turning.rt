@@ -172,17 +172,17 @@ impl Handler<Transfer> for Putting<'_> {
 
     ghost spent = { λ _. ⊥ };
 
-    #[tactic(auto, using(tcp_connections::proofs::AskedLemmas::each_itself))]
+    #[tactic(auto, using(tcp_connections::proofs::RequestLemmas::each_itself))]
     fn turn_to(&mut self, _from: SocketAddr, key: usize) {
         self.asker = key;
     }
 
-    #[tactic(auto, using(tcp_connections::proofs::AskedLemmas::each_itself))]
+    #[tactic(auto, using(tcp_connections::proofs::RequestLemmas::each_itself))]
     fn set_peer(&mut self, other: Peer) {
         self.peer = other;
     }
 
-    #[tactic(auto, using(tcp_connections::proofs::AskedLemmas::each_itself))]
+    #[tactic(auto, using(tcp_connections::proofs::RequestLemmas::each_itself))]
     fn reply<R: Wait>(
         &mut self,
         rt: &R,
@@ -196,7 +196,7 @@ impl Handler<Transfer> for Putting<'_> {
         Ok(Reply::Later)
     }
 
-    #[tactic(auto, using(tcp_connections::proofs::AskedLemmas::each_itself))]
+    #[tactic(auto, using(tcp_connections::proofs::RequestLemmas::each_itself))]
     fn prepare<R: Wait>(
         &mut self,
         _rt: &R,

@@ -2,7 +2,7 @@
 ghost use Rattle.std.specs.Prelude.{◌≡◌, ◌⊎◌, Some};
 ghost use Rattle.requests.specs.Allowed.{IsReplyFrom};
 ghost use Rattle.serve_core.specs.declared.transport.Transport.TheVariants.{Tcp};
-ghost use Rattle.tcp_connections.specs.Asked.{EachGrows};
+ghost use Rattle.tcp_connections.specs.Requests.{EachGrows};
 ghost use Rattle.tcp_loop.specs.Steps.{Turned};
 ghost use Rattle.worker_jobs.specs.Ended.{end_by};
 ghost use Rattle.worker_jobs.specs.Lost.{lost_of, lost_since};
@@ -222,7 +222,7 @@ impl<
     }
 
     /// Takes a turn of the event loop, unless the worker is to end. Gives an end where the worker is to end, or where no more turns can be taken.
-    #[tactic(auto, using(tcp_connections::proofs::AskedLemmas::each_itself))]
+    #[tactic(auto, using(tcp_connections::proofs::RequestLemmas::each_itself))]
     fn turn<R: Wait, A: Resting<M>, O: ServiceLog>(
         &mut self,
         rt: &R,

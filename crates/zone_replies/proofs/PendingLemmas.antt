@@ -9,7 +9,7 @@ use Rattle.zone_tree.specs.Version.{Version}
 use Rattle.snapshot_cell.specs.Tokens.{ReaderState}
 use Rattle.requests.specs.Served.{Learned, Grows}
 use Rattle.requests.proofs.TurnLemmas.{grows_itself, grows_more}
-use Rattle.tcp_connections.specs.Asked.{EachGrows}
+use Rattle.tcp_connections.specs.Requests.{EachGrows}
 use Rattle.zone_server.specs.Known.{learned_by}
 use Rattle.zone_replies.specs.declared.pending_updates.ReplyPlace.{ReplyPlace}
 use Rattle.zone_replies.specs.State.{PendingState}

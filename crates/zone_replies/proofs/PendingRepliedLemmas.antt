@@ -11,7 +11,7 @@ use Rattle.serve_core.specs.declared.peer.Peer.{Peer}
 use Rattle.requests.specs.Served.{Learned, Grows}
 use Rattle.requests.proofs.TurnLemmas.{grows_itself}
 use Rattle.tcp_connections.specs.Served.{Knowledge, Extends, waited, prompt}
-use Rattle.tcp_connections.specs.Asked.{EachGrows}
+use Rattle.tcp_connections.specs.Requests.{EachGrows}
 use Rattle.tcp_connections.specs.Kept.{messages_of}
 use Rattle.tcp_connections.specs.declared.handler.Reply.{Reply}
 use Rattle.tcp_connections.specs.declared.handler.Reply.TheVariants.{Later}

@@ -2,7 +2,7 @@
 ghost use Rattle.std.specs.Prelude.{◌≡◌, ◌≢◌, ◌≤◌, ◌⊎◌, ℕ, true, false, List, [], ◌∷◌, None, length, take, IfSome, IfOk, IfErr, OnErr, MatchOption};
 ghost use Rattle.dns_message.specs.Message.{message_limit};
 ghost use Rattle.zone_tree.specs.Version.{Version};
-ghost use Rattle.tcp_connections.specs.Asked.{EachGrows};
+ghost use Rattle.tcp_connections.specs.Requests.{EachGrows};
 ghost use Rattle.tcp_connections.specs.Kept.{messages_of};
 ghost use Rattle.tcp_connections.specs.declared.handler.Reply.{Reply as ReplyOf};
 ghost use Rattle.requests.specs.declared.stream_end.StreamEnd.{StreamEnd as EndOf};
@@ -469,7 +469,7 @@ impl<'a, 's, Z: FirstZone, N: ServerName, L: ServiceLog> Handler<Transfer>
 
     ghost spent = { λ replies. replies.reader.left ≡ 0 };
 
-    #[tactic(auto, using(tcp_connections::proofs::AskedLemmas::each_itself))]
+    #[tactic(auto, using(tcp_connections::proofs::RequestLemmas::each_itself))]
     fn turn_to(&mut self, from: SocketAddr, key: usize) {
         self.from = from;
         self.asker = key;
@@ -479,7 +479,7 @@ impl<'a, 's, Z: FirstZone, N: ServerName, L: ServiceLog> Handler<Transfer>
         self.peer = other;
     }
 
-    #[tactic(auto, using(zone_server::proofs::ReplyLemmas::limit_most, zone_server::proofs::ReplyLemmas::room_most, zone_server::proofs::ReplyLemmas::silent_replied, tcp_connections::proofs::AskedLemmas::each_itself))]
+    #[tactic(auto, using(zone_server::proofs::ReplyLemmas::limit_most, zone_server::proofs::ReplyLemmas::room_most, zone_server::proofs::ReplyLemmas::silent_replied, tcp_connections::proofs::RequestLemmas::each_itself))]
     fn reply<R: Wait>(
         &mut self,
         rt: &R,
@@ -530,7 +530,7 @@ impl<'a, 's, Z: FirstZone, N: ServerName, L: ServiceLog> Handler<Transfer>
         }
     }
 
-    #[tactic(auto, using(tcp_connections::proofs::AskedLemmas::each_itself))]
+    #[tactic(auto, using(tcp_connections::proofs::RequestLemmas::each_itself))]
     fn prepare<R: Wait>(&mut self, rt: &R, between: usize, request: &[u8], out: &mut [u8]) -> bool {
         let Some(more) = self.taken.more(self.asker) else {
             return false;

@@ -6,8 +6,8 @@ use Rattle.tcp_connections.specs.declared.handler.Reply.TheVariants.{One}
 use Rattle.zone_replies.specs.declared.transfer.Transfer.{Transfer}
 use Rattle.zone_tree.specs.Version.{Version}
 use Rattle.tcp_connections.specs.Served.{waited}
-use Rattle.tcp_connections.specs.Asked.{EachGrows}
-use Rattle.tcp_connections.proofs.AskedLemmas.{each_more}
+use Rattle.tcp_connections.specs.Requests.{EachGrows}
+use Rattle.tcp_connections.proofs.RequestLemmas.{each_more}
 use Rattle.zone_server.specs.UpdateResult.{IsFetched, IsDone}
 use Rattle.zone_server.specs.declared.update_result.Poll.{Poll}
 use Rattle.zone_replies.specs.State.{HandlerState}

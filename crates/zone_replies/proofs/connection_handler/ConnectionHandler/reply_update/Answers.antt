@@ -1,7 +1,7 @@
 -- Where none is pending, what is known is what the reader has learned; else it grows by all steps, and a reply by what was known meanwhile is one
 -- by what was known before.
 use Rattle.std.proofs.Common.{◌≡◌, List, [], ◌∷◌, Option, None, take, ap, ◌∙◌}
-use Rattle.tcp_connections.proofs.AskedLemmas.{each_more}
+use Rattle.tcp_connections.proofs.RequestLemmas.{each_more}
 use Rattle.zone_replies.specs.Going.{transfer_left}
 use Rattle.zone_replies.specs.State.{PendingState}
 use Rattle.zone_replies.specs.PendingUpdates.{known_at, place_in}

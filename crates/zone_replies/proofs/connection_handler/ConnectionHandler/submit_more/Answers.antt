@@ -2,7 +2,7 @@
 use Rattle.std.proofs.Common.{◌≡◌, Some, sym, ◌∙◌, subst}
 use Rattle.zone_tree.specs.Version.{Version}
 use Rattle.requests.proofs.TurnLemmas.{grows_itself}
-use Rattle.tcp_connections.specs.Asked.{EachGrows}
+use Rattle.tcp_connections.specs.Requests.{EachGrows}
 use Rattle.zone_server.specs.Known.{learned_by}
 use Rattle.zone_replies.specs.State.{HandlerState}
 use Rattle.zone_replies.specs.PendingUpdates.{known_at, entry_in}

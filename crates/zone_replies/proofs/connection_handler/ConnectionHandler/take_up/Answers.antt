@@ -1,7 +1,7 @@
 -- Where it waits, what is known on its connection is what was known before; else it gets its reply at once.
 use Rattle.std.proofs.Common.{◌≡◌, [], ◌∷◌, None, take, refl, sym, subst}
 use Rattle.zone_tree.specs.Version.{Version}
-use Rattle.tcp_connections.specs.Asked.{EachGrows}
+use Rattle.tcp_connections.specs.Requests.{EachGrows}
 use Rattle.zone_replies.specs.State.{PendingState, HandlerState}
 use Rattle.zone_replies.specs.PendingUpdates.{known_at, place_in, IsLater, IsMadeBy}
 use Rattle.zone_replies.proofs.PendingLemmas.{made_all, made_grows, begun_all, begun_grows, made_none, room_if}

@@ -8,7 +8,7 @@ ghost use Rattle.journal.specs.Log.{octets_of};
 ghost use Rattle.journal.specs.Recovered.{IsOpened};
 ghost use Rattle.store_server.specs.Private.{of_prepare};
 ghost use Rattle.store_server.specs.Started.{IsNotTaken};
-ghost use Rattle.store_server.specs.Taken.{IsTakenJournal};
+ghost use Rattle.store_server.specs.TakeZone.{IsTakenJournal};
 
 use crate::refusal::Refusal;
 use dns_rdata::Serial;

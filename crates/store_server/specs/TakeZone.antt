@@ -12,8 +12,8 @@ use Rattle.zone_change.specs.Change.{aimed}
 use Rattle.update_messages.specs.declared.prepared.PreparedChange.{PreparedChange}
 use Rattle.update_messages.specs.Prepared.{IsPrepared}
 use Rattle.store_recovery.specs.declared.start.Recovery.{Recovery}
-use Rattle.store_server.specs.declared.taken.TakenZone.{TakenZone}
-use Rattle.store_server.specs.declared.taken.TakenZone.TheVariants.{Unchanged, Changed}
+use Rattle.store_server.specs.declared.take_zone.TakenZone.{TakenZone}
+use Rattle.store_server.specs.declared.take_zone.TakenZone.TheVariants.{Unchanged, Changed}
 
 -- a head is another one, with other random octets, and by it the store was created from this text
 pub record IsTakenHead (before : Head) (given random : List ℕ) (after : Head) : Type 0 where

@@ -40,9 +40,9 @@ use Rattle.store_recovery.proofs.StoreLemmas.{store_accepted, store_taken}
 use Rattle.dns_engine.proofs.ReplayLemmas.{replay_more}
 use Rattle.store_compaction.proofs.EndLemmas.{store_more}
 use Rattle.store_compaction.proofs.StandsLemmas.{fit_last}
-use Rattle.store_server.specs.declared.taken.TakenZone.{TakenZone}
-use Rattle.store_server.specs.declared.taken.TakenZone.TheVariants.{Unchanged, Changed}
-use Rattle.store_server.specs.Taken.{IsTakenBy, IsTakenJournal}
+use Rattle.store_server.specs.declared.take_zone.TakenZone.{TakenZone}
+use Rattle.store_server.specs.declared.take_zone.TakenZone.TheVariants.{Unchanged, Changed}
+use Rattle.store_server.specs.TakeZone.{IsTakenBy, IsTakenJournal}
 use Rattle.store_server.proofs.RecoveredLemmas.{started_store}
 
 -- a zone's apex is in lower case

@@ -2,7 +2,7 @@
 use Rattle.std.proofs.Common.{◌≡◌, ℕ, List, sym, subst}
 use Rattle.tcp_connections.specs.Served.{Knowledge, Extends}
 use Rattle.tcp_connections.proofs.TurnLemmas.{extends_itself, extends_more}
-use Rattle.tcp_connections.specs.Asked.{EachGrows, Waits}
+use Rattle.tcp_connections.specs.Requests.{EachGrows, Waits}
 
 pub each_itself : {T : Type 0} (known : ℕ → Knowledge T) → EachGrows known known
 each_itself known = λ key. extends_itself (known key)

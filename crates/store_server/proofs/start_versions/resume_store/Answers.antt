@@ -7,9 +7,9 @@ use Rattle.journal.specs.Frame.{body_limit}
 use Rattle.store_compaction.specs.RecentUpdates.{RecentState, followed}
 use Rattle.store_compaction.specs.Writer.{recent_of}
 use Rattle.store_server.specs.declared.resume.OpenStore.{OpenStore}
-use Rattle.store_server.specs.Opened.{WritesOn}
+use Rattle.store_server.specs.OpenStore.{WritesOn}
 use Rattle.store_server.proofs.ResumedLemmas.{has_fit, has_many, writes_on, followed_keep}
-use Rattle.store_server.proofs.resumed.resume_store.Goals as goal
+use Rattle.store_server.proofs.start_versions.resume_store.Goals as goal
 
 pub recent_of-requires-clause-short : goal.recent_of-requires-clause-short
 recent_of-requires-clause-short g c =

@@ -1,6 +1,6 @@
 use Rattle.std.proofs.Common.{◌≡◌, map, take}
 use Rattle.journal.specs.Log.{octets_of}
-use Rattle.store_server.proofs.taken.journal_under.Given as goal
+use Rattle.store_server.proofs.take_zone.journal_under.Given as goal
 
 -- the head, and the frames so far
 abbrev pub invariant-loop-number : goal.invariant-loop-number

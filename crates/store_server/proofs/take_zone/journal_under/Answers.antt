@@ -3,8 +3,8 @@ use Rattle.std.proofs.lemmas.List.{length-map}
 use Rattle.std.proofs.lemmas.Slice.{pushed}
 use Rattle.journal.specs.Frame.{framed, Fit}
 use Rattle.journal.specs.Head.{salt_of}
-use Rattle.store_server.proofs.TakenLemmas.{now_of, has_head, read_as, lent_short, frame_more, frames_none, frames_all}
-use Rattle.store_server.proofs.taken.journal_under.Goals as goal
+use Rattle.store_server.proofs.TakeZoneLemmas.{now_of, has_head, read_as, lent_short, frame_more, frames_none, frames_all}
+use Rattle.store_server.proofs.take_zone.journal_under.Goals as goal
 
 -- the journal has a head
 pub unreachable-requires : goal.unreachable-requires

@@ -8,7 +8,7 @@ ghost use Rattle.update_batches.specs.declared.version_update.VersionUpdate.{Ver
 ghost use Rattle.store_compaction.specs.RecentUpdates.{followed};
 ghost use Rattle.update_batches.specs.Batch.{versions_in, updates_of};
 ghost use Rattle.store_compaction.specs.Writer.{recent_of as recent_in};
-ghost use Rattle.store_server.specs.Opened.{IsGiven, WritesOn};
+ghost use Rattle.store_server.specs.OpenStore.{IsGiven, WritesOn};
 
 use crate::resume::OpenStore;
 use dns_engine::SharedVersion;

@@ -11,8 +11,8 @@ use Rattle.journal.proofs.FramesLemmas.{fit_more}
 use Rattle.update_messages.specs.declared.prepared.Prepared.{Prepared}
 use Rattle.update_messages.specs.declared.prepared.Prepared.TheVariants.{Unchanged}
 use Rattle.update_messages.specs.Prepared.{IsPrepared, IsPreparedFrom, IsPrepareFault}
-use Rattle.store_server.proofs.TakenLemmas.{change_put, not_prepared}
-use Rattle.store_server.proofs.taken.taken_journal.Goals as goal
+use Rattle.store_server.proofs.TakeZoneLemmas.{change_put, not_prepared}
+use Rattle.store_server.proofs.take_zone.taken_journal.Goals as goal
 
 pub returns-in-Ok-Unchanged-clause-journal : goal.returns-in-Ok-Unchanged-clause-journal
 returns-in-Ok-Unchanged-clause-journal c =
