@@ -7,7 +7,7 @@ ghost use Rattle.tcp_loop.specs.Steps.{Turned};
 ghost use Rattle.worker_jobs.specs.Ended.{end_by};
 ghost use Rattle.worker_jobs.specs.Lost.{lost_of, lost_since};
 
-use crate::progress::StopFlag;
+use crate::work_limit::StopFlag;
 use crate::scratch::Scratch;
 use crate::wake_list::WakeList;
 use crate::waking_poll::WakingPoll;
@@ -194,7 +194,7 @@ impl<
     {
         let ended = ended_in(tally);
         if ended > self.counted {
-            self.stop.progress.add(ended - self.counted);
+            self.stop.limit.add(ended - self.counted);
             self.counted = ended;
         }
     }
@@ -235,7 +235,7 @@ impl<
         ensures plan { self.new.plan ≡ self.old.plan }
     {
         if self.stop.is_over() {
-            return Some(JobEnd::Done(self.stop.progress.done()));
+            return Some(JobEnd::Done(self.stop.limit.done()));
         }
         self.poll.take_woken(rt);
         handler.rest(self.event_loop.tally());

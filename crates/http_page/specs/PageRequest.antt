@@ -1,8 +1,8 @@
 -- What is asked over HTTP (RFC 9112, 3).
 use Rattle.std.specs.Prelude.{◌≡◌, ℕ, ◌<◌, ◌≤◌, ◌⊎◌, List, length, codes, bytes_eq, not, if◌then◌else◌}
 use Rattle.httparse.specs.Grammar.{RequestHead, ReadsRequest, HasNoRequest}
-use Rattle.http_page.specs.declared.asked.PageRequest.{PageRequest}
-use Rattle.http_page.specs.declared.asked.PageRequest.TheVariants.{More, Page, Metrics, Health, Unknown, OtherMethod, Bad}
+use Rattle.http_page.specs.declared.page_request.PageRequest.{PageRequest}
+use Rattle.http_page.specs.declared.page_request.PageRequest.TheVariants.{More, Page, Metrics, Health, Unknown, OtherMethod, Bad}
 
 -- what a method and a target ask for
 abbrev pub asked_of : List ℕ → List ℕ → PageRequest

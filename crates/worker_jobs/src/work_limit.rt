@@ -48,17 +48,17 @@ impl WorkLimit {
 #[derive(Clone, Copy)]
 pub struct StopFlag<'a> {
     pub(crate) shutdown: &'a Shutdown,
-    pub(crate) progress: &'a WorkLimit,
+    pub(crate) limit: &'a WorkLimit,
 }
 
 impl<'a> StopFlag<'a> {
     /// For a thread of a worker.
-    pub fn new(shutdown: &'a Shutdown, progress: &'a WorkLimit) -> StopFlag<'a> {
-        StopFlag { shutdown, progress }
+    pub fn new(shutdown: &'a Shutdown, limit: &'a WorkLimit) -> StopFlag<'a> {
+        StopFlag { shutdown, limit }
     }
 
     /// Whether the thread is to end: its worker has reached its limit, or the server is to end.
     pub(crate) fn is_over(self) -> bool {
-        self.progress.is_done() || self.shutdown.is_ending()
+        self.limit.is_done() || self.shutdown.is_ending()
     }
 }

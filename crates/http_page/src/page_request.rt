@@ -1,6 +1,6 @@
 //! What a request asks for.
 ghost use Rattle.std.specs.Prelude.{◌≡◌, ◌<◌, length};
-ghost use Rattle.http_page.specs.Asked.{IsAsked, asked_of};
+ghost use Rattle.http_page.specs.PageRequest.{IsAsked, asked_of};
 
 use httparse::Status;
 use httparse::spans::{EMPTY_HEADER_SPAN, parse_request};
