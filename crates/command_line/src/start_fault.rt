@@ -71,7 +71,11 @@ fn tell_journal<W: fmt::Write>(
 fn tell_update<W: fmt::Write>(f: &mut fmt::Formatter<W>, fault: &UpdateFault) -> fmt::Result {
     match fault {
         UpdateFault::NotAnUpdate => write!(f, "is none"),
-        UpdateFault::Refused(code) => write!(f, "is refused on replay, with RCODE {}", code.number()),
+        UpdateFault::Refused(code) => write!(
+            f,
+            "is refused on replay, with RCODE {}",
+            code.number()
+        ),
         UpdateFault::ChangesNothing => write!(f, "changes nothing"),
     }
 }

@@ -69,10 +69,7 @@ pub struct ReloadSlot {
 
 impl Drop for ReloadSlot {
     fn drop(self) {
-        let ReloadSlot {
-            state: _,
-            came: _,
-        } = self;
+        let ReloadSlot { state: _, came: _ } = self;
     }
 }
 

@@ -39,8 +39,8 @@ pub use compactor_laws::{tended_stores_have_the_same_start, what_is_accepted_is_
 pub use event::{CompactionEvent, CompactionLog};
 pub use files::{create_next_text, drop_old_texts, replace_with_next, write_next_text};
 pub use laws::{
-    compactions_keep_the_choice, compactions_keep_the_versions, starts_have_their_recent_updates,
-    recent_updates_end_their_stores, what_a_crash_leaves_is_started,
+    compactions_keep_the_choice, compactions_keep_the_versions, recent_updates_end_their_stores,
+    starts_have_their_recent_updates, what_a_crash_leaves_is_started,
 };
 pub use marked::{Compaction, next_text};
 pub use next::{NextJournal, NextText};

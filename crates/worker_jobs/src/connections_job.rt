@@ -7,10 +7,10 @@ ghost use Rattle.tcp_loop.specs.Steps.{Turned};
 ghost use Rattle.worker_jobs.specs.Ended.{end_by};
 ghost use Rattle.worker_jobs.specs.Lost.{lost_of, lost_since};
 
-use crate::work_limit::StopFlag;
 use crate::scratch::Scratch;
 use crate::wake_list::WakeList;
 use crate::waking_poll::WakingPoll;
+use crate::work_limit::StopFlag;
 use counted_requests::Resting;
 use crossbeam_utils::CachePadded;
 use requests::Allowed;
