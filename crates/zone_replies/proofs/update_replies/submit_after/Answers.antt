@@ -6,7 +6,7 @@ use Rattle.snapshot_cell.specs.Tokens.{ReaderState}
 use Rattle.zone_server.specs.declared.open_ticket.WaitingTicket.{WaitingTicket}
 use Rattle.zone_replies.specs.State.{PendingState}
 use Rattle.zone_replies.specs.PendingUpdates.{with_more}
-use Rattle.zone_replies.proofs.connection_handler.submit_after.Goals as goal
+use Rattle.zone_replies.proofs.update_replies.submit_after.Goals as goal
 
 abbrev pending_as : SocketAddr → WaitingTicket → List WaitingTicket → ℕ → ReaderState Version → PendingState
 pending_as from ticket more number known = record { from = from; ticket = ticket; more = more; number = number; known = known }
