@@ -21,7 +21,7 @@ use Rattle.zone_server.specs.UpdateResult.{IsDone}
 use Rattle.zone_server.specs.Known.{learned_by}
 use Rattle.zone_server.specs.QueuedUpdate.{MeetsAt, IsSubmitted}
 use Rattle.zone_server.specs.declared.submit.Submitted.{Submitted}
-use Rattle.zone_server.specs.declared.submit.Submitted.TheVariants.{Replied, Waits}
+use Rattle.zone_server.specs.declared.submit.Submitted.TheVariants.{Replied, Pending}
 use Rattle.zone_server.specs.Answer.{PermitsTransfer}
 use Rattle.zone_server.specs.Replied.{IsReplied, IsQuery, IsTransfer, HasNoAnswer}
 use Rattle.zone_server.proofs.AboutLemmas.{no_older}
@@ -46,7 +46,7 @@ meets_grows first before after number meets = grows_met before after meets.0.hel
 
 pub submitted_grows : (first : List Record) (peer : Peer) (request : List ℕ) (before after : ReaderState Version) (out : List ℕ) (submitted : Submitted) → IsSubmitted first peer request before after out submitted → Grows (learned_by after) (learned_by before)
 submitted_grows first peer request before after out (Replied len outcome) is = is.grows
-submitted_grows first peer request before after out (Waits ticket number put) is = meets_grows first before after number is
+submitted_grows first peer request before after out (Pending ticket number put) is = meets_grows first before after number is
 
 -- and what was known before isn't newer than the version of the number that it has met
 pub meets_taken : (first : List Record) (before after : ReaderState Version) (number : ℕ) (one : PendingState) → MeetsAt first before after number → one.known ≡ before → one.number ≡ number → IsTakenUp after one

@@ -63,7 +63,7 @@ fn submit_after<R: Wait, Z: FirstZone, N: ServerName>(
     let sender = Some(sender);
     match submit_stream(rt, alloc, server, reader, sender, key, peer, request, out) {
         Submitted::Replied(_, _) => (all, false),
-        Submitted::Waits {
+        Submitted::Pending {
             ticket,
             number: _,
             put: _,
@@ -182,7 +182,7 @@ impl<'a, 's, Z: FirstZone, N: ServerName, L: ServiceLog> ConnectionHandler<'a, '
                 tell_update(rt, self.log, peer, self.from, outcome);
                 Reply::One(len)
             }
-            Submitted::Waits {
+            Submitted::Pending {
                 ticket,
                 number,
                 put: _,

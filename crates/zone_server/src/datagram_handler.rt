@@ -152,7 +152,7 @@ impl<'a, 's, Z: FirstZone, N: ServerName, L: ServiceLog> DatagramHandler<'a, 's,
                 tell_update(rt, self.log, peer, from, outcome);
                 Some(len)
             }
-            DatagramSubmitted::Waits(_put) => None,
+            DatagramSubmitted::Pending(_put) => None,
         }
     }
 

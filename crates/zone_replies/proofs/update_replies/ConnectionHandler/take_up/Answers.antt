@@ -13,13 +13,13 @@ invariant_of-self g c =
     let room = c.make_room-has_room.ensures.none in
     made_all c.self.inside.reader c.submit_stream.new.reader c.in-Replied.ensures.submitted.grows c.self.inside.taken c.self.inside.asker c.make_room-has_room.new.self room.0 room.1 c.self.invariant
 
-pub invariant_of-self-in-Waits : goal.invariant_of-self-in-Waits
-invariant_of-self-in-Waits g c =
+pub invariant_of-self-in-Pending : goal.invariant_of-self-in-Pending
+invariant_of-self-in-Pending g c =
     let room = c.make_room-has_room.ensures.none in
     let first = g.Z.FirstZone.zone in
-    let one : PendingState = record { from = c.self.inside.from; ticket = c.in-Waits.ticket; more = c.new.result.items; number = c.in-Waits.number; known = c.of-known.result.value } in
-    begun_all c.self.inside.reader c.submit_stream.new.reader (meets_grows first c.self.inside.reader c.submit_stream.new.reader c.in-Waits.number c.in-Waits.ensures.submitted) c.self.inside.taken c.make_room-has_room.new.self c.put.new.self c.self.inside.asker room.0 one room.1 c.put.ensures
-    (meets_taken first c.self.inside.reader c.submit_stream.new.reader c.in-Waits.number one c.in-Waits.ensures.submitted c.of-known.ensures refl) c.self.invariant
+    let one : PendingState = record { from = c.self.inside.from; ticket = c.in-Pending.ticket; more = c.new.result.items; number = c.in-Pending.number; known = c.of-known.result.value } in
+    begun_all c.self.inside.reader c.submit_stream.new.reader (meets_grows first c.self.inside.reader c.submit_stream.new.reader c.in-Pending.number c.in-Pending.ensures.submitted) c.self.inside.taken c.make_room-has_room.new.self c.put.new.self c.self.inside.asker room.0 one room.1 c.put.ensures
+    (meets_taken first c.self.inside.reader c.submit_stream.new.reader c.in-Pending.number one c.in-Pending.ensures.submitted c.of-known.ensures refl) c.self.invariant
 
 pub returns-in-Replied-clause-grows : goal.returns-in-Replied-clause-grows
 returns-in-Replied-clause-grows g c =
@@ -34,19 +34,19 @@ returns-in-Replied-clause-replied g c = λ _.
     subst (λ (s : HandlerState). IsMadeBy g.Z.FirstZone.zone s.peer (known_at s.taken s.reader s.asker) (known_at c.make_room-has_room.new.self c.submit_stream.new.reader s.asker) c.args.request.now (take c.in-Replied.len c.submit_stream.new.out ∷ [])) c.self.view_is
     (later_made g.Z.FirstZone.zone c.self.inside.peer c.self.inside.taken c.make_room-has_room.new.self c.self.inside.reader c.submit_stream.new.reader c.self.inside.asker c.args.request.now (take c.in-Replied.len c.submit_stream.new.out ∷ []) later none c.in-Replied.ensures.submitted.replied)
 
-pub returns-in-Waits-clause-grows : goal.returns-in-Waits-clause-grows
-returns-in-Waits-clause-grows g c =
+pub returns-in-Pending-clause-grows : goal.returns-in-Pending-clause-grows
+returns-in-Pending-clause-grows g c =
     let room = c.make_room-has_room.ensures.none in
     let first = g.Z.FirstZone.zone in
     let none : place_in c.self.inside.taken c.self.inside.asker ≡ None = subst (λ (s : HandlerState). place_in s.taken s.asker ≡ None) (sym c.self.view_is) c.requires.none in
-    let one : PendingState = record { from = c.self.inside.from; ticket = c.in-Waits.ticket; more = c.new.result.items; number = c.in-Waits.number; known = c.of-known.result.value } in
+    let one : PendingState = record { from = c.self.inside.from; ticket = c.in-Pending.ticket; more = c.new.result.items; number = c.in-Pending.number; known = c.of-known.result.value } in
     subst (λ (s : HandlerState). EachGrows {T = Version} (known_at c.put.new.self c.submit_stream.new.reader) (known_at s.taken s.reader)) c.self.view_is
-    (begun_grows c.self.inside.reader c.submit_stream.new.reader (meets_grows first c.self.inside.reader c.submit_stream.new.reader c.in-Waits.number c.in-Waits.ensures.submitted) c.self.inside.taken c.make_room-has_room.new.self c.put.new.self c.self.inside.asker room.0 one room.1 c.put.ensures
+    (begun_grows c.self.inside.reader c.submit_stream.new.reader (meets_grows first c.self.inside.reader c.submit_stream.new.reader c.in-Pending.number c.in-Pending.ensures.submitted) c.self.inside.taken c.make_room-has_room.new.self c.put.new.self c.self.inside.asker room.0 one room.1 c.put.ensures
     c.of-known.ensures none)
 
 -- it waits only where there was room for it
 pub put-requires-clause-room : goal.put-requires-clause-room
-put-requires-clause-room g c = room_if c.make_room-has_room.result _ c.make_room-has_room.ensures.room (λ lacks. c.in-Waits.ensures.unsent (c.sender_with-sender.ensures lacks))
+put-requires-clause-room g c = room_if c.make_room-has_room.result _ c.make_room-has_room.ensures.room (λ lacks. c.in-Pending.ensures.unsent (c.sender_with-sender.ensures lacks))
 
 pub put-requires-clause-none : goal.put-requires-clause-none
 put-requires-clause-none g c =
