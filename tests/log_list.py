@@ -15,7 +15,6 @@ server_control/src/serve_fault.rt store_compaction/src/compacted_store.rt store_
 
 # What isn't logged, nor replied to `reload`, each with why.
 OTHERS = {
-    "store: writing zone-": "not logged",
     "error: no server answers on": "of `dnsd control`",
     "ended before it replied": "of `dnsd control`",
     "error: the request is": "of `dnsd may`",

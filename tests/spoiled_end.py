@@ -172,7 +172,7 @@ def faults_of(store, octets, want, zone, serve):
     end, all_of = len(store.journal), set(range(1, store.number + 1))
     damage = isinstance(want, int)
     for name, (numbers, status, said, _) in (("zone", zone), ("serve", serve)):
-        if damage and (status != 1 or f"damaged in front of octet {end + want};" not in said):
+        if damage and (status != 1 or f"damaged before octet {end + want};" not in said):
             yield f"{name}: damage at {end + want} isn't told: {status} {said[:300]!r}"
         if not damage and (status or numbers != all_of):
             yield f"{name}: {numbers}, status {status}: {said[:300]!r}"

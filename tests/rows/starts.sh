@@ -190,7 +190,7 @@ while read -r laid last texts; do
     esac
     for taken in '' '--take store' '--take zone'; do
         # shellcheck disable=SC2086
-        stays 1 "$nine" "error: the store '$store' has the zone text '$store/zone-$last', and no journal, which had the updates since: put the journal back, or move the zone texts out of the directory to begin from the zone's text" $taken
+        stays 1 "$nine" "error: the store '$store' has the zone text '$store/zone-$last', but no journal, which has the updates since: put the journal back, or move the zone texts out of the directory to create a new store from ZONE" $taken
     done
 done <<'end'
 none 10 9 10
@@ -318,7 +318,7 @@ stops 1 "$nine" "error: '$store/journal' has a damaged head" --take zone
 lays_store 3 "$seven" 'ff'
 stops 1 "$seven" "error: '$store/journal' is too short to be a journal"
 lays_store 3 "$seven" "$head${whole:312:18}f${whole:331}$(frame_of "$head" 1 "${add_a/%01/02}")"
-stops 1 "$seven" "error: '$store/journal': updates that were answered are damaged in front of octet $((${#whole} / 2)); dnsd zone --before-fault '$store' prints the zone in front of them"
+stops 1 "$seven" "error: '$store/journal': updates that were answered are damaged before octet $((${#whole} / 2)); dnsd zone --before-fault '$store' prints the zone before them"
 lays_store 4 "$seven" "$whole"
 stops 1 "$seven" "error: the journal of '$store' belongs to '$store/zone-3', which isn't there"
 has_files journal lock zone-4
@@ -345,7 +345,7 @@ begins_with() {
 while read -r last serial newer; do
     begins_with "$last"
     if [ "$newer" = newer ]; then
-        stops 1 "${six/ 6 / $serial }" "error: the zone's text is another one than the store '$store' was begun from, and has the serial $serial, greater than the store's $last: --take store serves the store, --take zone changes it to the text"
+        stops 1 "${six/ 6 / $serial }" "error: ZONE has changed since the store '$store' was created, and its serial $serial is newer than the store's $last: --take store serves the store, --take zone changes it to ZONE"
     else
         starts "${six/ 6 / $serial }" "serving the store '$store'; ignoring ZONE: it has changed, but its serial $serial is not newer"
     fi
@@ -364,7 +364,7 @@ head=$(head_of 3 7369787465656e206f63746574732e2e "$seven" 7 "$seven")
 whole=$head$(frame_of "$head" 0 "$add_a")
 lays_store 3 "$seven" "$whole"
 starts "${six/ 6 / 8 }" "serving the store '$store'; ignoring ZONE: it has changed, but its serial 8 is not newer"
-stops 1 "$nine" "error: the zone's text is another one than the store '$store' was begun from, and has the serial 9, greater than the store's 8: --take store serves the store, --take zone changes it to the text"
+stops 1 "$nine" "error: ZONE has changed since the store '$store' was created, and its serial 9 is newer than the store's 8: --take store serves the store, --take zone changes it to ZONE"
 has_journal "$whole"
 
 # a store that is taken is served, whatever the serials are and whatever the text says; a text that is taken changes the store, to the serial after the store's where the text's

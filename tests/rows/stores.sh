@@ -83,7 +83,7 @@ prints "$three" journal "$store"
 lays "$text" "${whole}0000003400000000"
 prints "$three" journal "$store"
 lays "$text" "${whole/c0000202/c0000204}"
-says 1 "error: '$store/journal': updates that were answered are damaged in front of octet 416; dnsd zone --before-fault '$store' prints the zone in front of them" journal "$store"
+says 1 "error: '$store/journal': updates that were answered are damaged before octet 416; dnsd zone --before-fault '$store' prints the zone before them" journal "$store"
 lays "$first" "$whole"
 says 1 "error: the zone text of '$store' isn't the one that '$store/journal' belongs to" journal "$store"
 lays "$text" "$head${frames[0]}d7a6ab14b984491d0000003400000000000000010032000128000001000000010000076578616d706c6500000600010161076578616d706c6500000100010000012c0004c0000201b5581b164dd086a2790644c88785751399057b6ca2d05110b364ff07f14a3093"
@@ -93,10 +93,10 @@ row 2 DIR journal
 
 # a batch that is damaged in front of another is told by the octet at which that begins, and the zone in front of it is printed where that is asked for
 damaged=${whole/c0000202/c0000204}
-tells_stored "'$store/journal': updates that were answered are damaged in front of octet 416; dnsd zone --before-fault '$store' prints the zone in front of them" "$damaged"
+tells_stored "'$store/journal': updates that were answered are damaged before octet 416; dnsd zone --before-fault '$store' prints the zone before them" "$damaged"
 prints_stored "$first" "$damaged" --before-fault
 damaged=${whole/c0000201/c0000204}
-tells_stored "'$store/journal': updates that were answered are damaged in front of octet 260; dnsd zone --before-fault '$store' prints the zone in front of them" "$damaged"
+tells_stored "'$store/journal': updates that were answered are damaged before octet 260; dnsd zone --before-fault '$store' prints the zone before them" "$damaged"
 prints_stored "$text" "$damaged" --before-fault
 lays "$text" "$damaged"
 prints "$text" zone "$store" --before-fault
@@ -114,7 +114,7 @@ for ((at = 0; at < ${#whole} / 2; at++)); do
         tells_stored "'$store/journal' has a damaged head" "$turned"
     elif ((at < ends[2])); then
         next=$((at < ends[1] ? ends[1] : ends[2]))
-        tells_stored "'$store/journal': updates that were answered are damaged in front of octet $next; dnsd zone --before-fault '$store' prints the zone in front of them" "$turned"
+        tells_stored "'$store/journal': updates that were answered are damaged before octet $next; dnsd zone --before-fault '$store' prints the zone before them" "$turned"
     else
         prints_stored "$second" "$turned"
     fi
@@ -170,7 +170,7 @@ tells_stored "the zone text of '$store' has another serial than '$store/journal'
 # a batch that is none, and updates that aren't taken again: outside the zone (RFC 2136, 3.4.1.3), there already, and no message
 taken=$head${frames[0]}
 tells_stored "'$store/journal': batch 1, counted from 0, has no updates" "${taken}d7a6ab14b984491d0000000500000000000000010005616263246ab7621bb118e5519ba46b99130d011a827dbb3a5de3e896728d13c135a11c"
-tells_stored "'$store/journal': update 1, counted from 0, isn't taken again, but told 10" "${taken}d7a6ab14b984491d000000310000000000000001002f000128000001000000010000076578616d706c6500000600010161047465737400000100010000012c0004c0000201ce5f8cac028510aa0a5c8619c0be6e7c8815e1aec6489fc9157a3beadae322bf"
+tells_stored "'$store/journal': update 1, counted from 0, is refused on replay, with RCODE 10" "${taken}d7a6ab14b984491d000000310000000000000001002f000128000001000000010000076578616d706c6500000600010161047465737400000100010000012c0004c0000201ce5f8cac028510aa0a5c8619c0be6e7c8815e1aec6489fc9157a3beadae322bf"
 tells_stored "'$store/journal': update 1, counted from 0, changes nothing" "${taken}d7a6ab14b984491d0000003400000000000000010032000128000001000000010000076578616d706c6500000600010161076578616d706c6500000100010000012c0004c0000201b5581b164dd086a2790644c88785751399057b6ca2d05110b364ff07f14a3093"
 tells_stored "'$store/journal': update 1, counted from 0, is none" "${taken}d7a6ab14b984491d0000000300000000000000010001008df7916986e00f0b929c8f4418c247bd46dd9b15b47685a9d21e98e94f3dca93"
 
@@ -182,7 +182,7 @@ tells_stored "'$store/journal': update 2, counted from 0, is none" \
     "${taken}d7a6ab14b984491d0000007f00000000000000010032000128000001000000010000076578616d706c6500000600010162076578616d706c6500000100010000012c0004c000020200190001a8000001000000000000076578616d706c650000060001002e000128000001000000010000076578616d706c6500000600010162076578616d706c650000ff00ff000000000000152f241b23a5c7f1a0c1a5ede3c3efe0c1786126824b3acf41bfb932b263001e"
 tells_stored "'$store/journal': update 2, counted from 0, is none" \
     "${taken}d7a6ab14b984491d0000008000000000000000010032000128000001000000010000076578616d706c6500000600010162076578616d706c6500000100010000012c0004c0000202001a000128000001000000010000076578616d706c65000006000101002e000128000001000000010000076578616d706c6500000600010162076578616d706c650000ff00ff000000000000810d6ea0a527eb68e5ee91381000fbaa031bc70e937c6aa5203177ce9da02e29"
-tells_stored "'$store/journal': update 2, counted from 0, isn't taken again, but told 10" \
+tells_stored "'$store/journal': update 2, counted from 0, is refused on replay, with RCODE 10" \
     "${taken}d7a6ab14b984491d0000009500000000000000010032000128000001000000010000076578616d706c6500000600010162076578616d706c6500000100010000012c0004c0000202002f000128000001000000010000076578616d706c6500000600010161047465737400000100010000012c0004c0000201002e000128000001000000010000076578616d706c6500000600010162076578616d706c650000ff00ff000000000000a0b30df56bc3ed346f30cf8ebd5d5579f23baa350d28aa15d7185c97e6989ca9"
 tells_stored "'$store/journal': update 2, counted from 0, changes nothing" \
     "${taken}d7a6ab14b984491d0000009800000000000000010032000128000001000000010000076578616d706c6500000600010162076578616d706c6500000100010000012c0004c00002020032000128000001000000010000076578616d706c6500000600010161076578616d706c6500000100010000012c0004c0000201002e000128000001000000010000076578616d706c6500000600010162076578616d706c650000ff00ff000000000000394e7a057b4642ef94bd8d7cfef875060f6ab10ab732c4ebab23a135b0a76e9c"

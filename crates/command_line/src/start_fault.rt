@@ -57,7 +57,7 @@ fn tell_journal<W: fmt::Write>(
         ),
         Refused::Damaged(at) => write!(
             f,
-            "'{dir}/journal': updates that were answered are damaged in front of octet {at}; dnsd zone --before-fault '{dir}' prints the zone in front of them"
+            "'{dir}/journal': updates that were answered are damaged before octet {at}; dnsd zone --before-fault '{dir}' prints the zone before them"
         ),
         Refused::NoBatch(number) => write!(
             f,
@@ -71,7 +71,11 @@ fn tell_journal<W: fmt::Write>(
 fn tell_update<W: fmt::Write>(f: &mut fmt::Formatter<W>, fault: &UpdateFault) -> fmt::Result {
     match fault {
         UpdateFault::NotAnUpdate => write!(f, "is none"),
-        UpdateFault::Refused(code) => write!(f, "isn't taken again, but told {}", code.number()),
+        UpdateFault::Refused(code) => write!(
+            f,
+            "is refused on replay, with RCODE {}",
+            code.number()
+        ),
         UpdateFault::ChangesNothing => write!(f, "changes nothing"),
     }
 }

@@ -350,7 +350,7 @@ fn serve_on_workers<
     requires { CanStart begun }
 {
     let alloc = rt.alloc();
-    let Some(progresses) = work_limits_of(alloc, serve.workers, serve.most) else {
+    let Some(limits) = work_limits_of(alloc, serve.workers, serve.most) else {
         return Err(ServeFault::NoMemory);
     };
     let Ok(work) = update_work_of(metrics.as_ref()) else {
@@ -365,7 +365,7 @@ fn serve_on_workers<
         control,
         metrics,
         apex,
-        &progresses,
+        &limits,
         &telling,
     );
     let Some(specs) = specs else {

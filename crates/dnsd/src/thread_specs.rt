@@ -18,10 +18,10 @@ pub fn thread_specs_for<'a>(
     control: Option<ControlPlan>,
     metrics: Option<MetricsPlan>,
     apex: &Name,
-    progresses: &'a [WorkLimit],
+    limits: &'a [WorkLimit],
     telling: &'a WorkLimit,
 ) -> Option<Vec<ThreadSpec<'a>>> {
-    let mut specs = thread_specs_of(alloc, sockets, progresses)?;
+    let mut specs = thread_specs_of(alloc, sockets, limits)?;
     if !secondaries.is_empty() {
         let worker = specs.len().saturating_add(1);
         let secondaries = Sockets::Secondaries(secondaries.of_zone(apex.copy()));
@@ -43,14 +43,14 @@ pub fn thread_specs_for<'a>(
 fn thread_specs_of<'a>(
     alloc: Global,
     workers: Vec<WorkerSockets>,
-    progresses: &'a [WorkLimit],
+    limits: &'a [WorkLimit],
 ) -> Option<Vec<ThreadSpec<'a>>> {
     let mut specs = Vec::new(alloc);
     let mut worker = 0usize;
     for sockets in workers {
-        let progress = progresses.get(worker)?;
+        let limit = limits.get(worker)?;
         worker = worker.saturating_add(1);
-        put_thread_specs(&mut specs, worker, progress, sockets)?;
+        put_thread_specs(&mut specs, worker, limit, sockets)?;
     }
     Some(specs)
 }
@@ -59,13 +59,13 @@ fn thread_specs_of<'a>(
 fn put_thread_specs<'a>(
     specs: &mut Vec<ThreadSpec<'a>>,
     worker: usize,
-    progress: &'a WorkLimit,
+    limit: &'a WorkLimit,
     sockets: WorkerSockets,
 ) -> Option<()> {
     let (datagrams, listeners) = sockets.into_parts();
-    put(specs, worker, progress, Sockets::Connections(listeners))?;
+    put(specs, worker, limit, Sockets::Connections(listeners))?;
     for socket in datagrams {
-        put(specs, worker, progress, Sockets::Datagrams(socket))?;
+        put(specs, worker, limit, Sockets::Datagrams(socket))?;
     }
     Some(())
 }
@@ -74,12 +74,12 @@ fn put_thread_specs<'a>(
 fn put<'a>(
     specs: &mut Vec<ThreadSpec<'a>>,
     worker: usize,
-    progress: &'a WorkLimit,
+    limit: &'a WorkLimit,
     sockets: Sockets,
 ) -> Option<()> {
     let spec = ThreadSpec {
         worker,
-        progress,
+        limit,
         sockets,
     };
     if specs.push(spec).is_err() {
@@ -90,13 +90,13 @@ fn put<'a>(
 
 /// The work limits of the workers, each of which exits after `most` datagrams and connections. None if there is not enough memory.
 pub fn work_limits_of(alloc: Global, workers: usize, most: u64) -> Option<Vec<WorkLimit>> {
-    let mut progresses = Vec::new(alloc);
+    let mut limits = Vec::new(alloc);
     for _ in 0..workers {
-        if progresses.push(WorkLimit::new(most)).is_err() {
+        if limits.push(WorkLimit::new(most)).is_err() {
             return None;
         }
     }
-    Some(progresses)
+    Some(limits)
 }
 
 /// The maximum number of open connections per worker: as many as requested, or else, with a line in the log, as many as there are descriptors for.

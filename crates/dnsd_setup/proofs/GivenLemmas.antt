@@ -6,7 +6,7 @@ use Rattle.store_server.specs.declared.resume.OpenStore.{OpenStore}
 use Rattle.store_server.specs.declared.start.Served.{Served}
 use Rattle.store_server.specs.declared.start.Served.TheVariants.{Created, Same, Store, StoreThoughOther, Zone}
 use Rattle.store_server.specs.Started.{IsCreatedWith, IsServedBy}
-use Rattle.store_server.specs.Opened.{IsGiven}
+use Rattle.store_server.specs.OpenStore.{IsGiven}
 
 begun : (text : List ℕ) (origin : Name) (random : List ℕ) (store : OpenStore) → IsCreatedWith text origin random store → IsGiven store
 begun text origin random store with = inr (with.zone, with.number, random, text, with.begun)

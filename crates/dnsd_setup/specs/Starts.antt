@@ -8,7 +8,7 @@ use Rattle.store_compaction.specs.declared.writer.StoreWriter.{StoreWriter}
 use Rattle.store_compaction.specs.Kept.{CompactedState}
 use Rattle.store_server.specs.declared.served.ServerStore.{ServerStore}
 use Rattle.store_server.specs.declared.served.ServerStore.TheVariants.{Nowhere, Store as Kept}
-use Rattle.store_server.specs.Opened.{IsGiven, WritesOn}
+use Rattle.store_server.specs.OpenStore.{IsGiven, WritesOn}
 use Rattle.dnsd_setup.specs.declared.started_zone.StartedZone.{StartedZone}
 use Rattle.dnsd_setup.specs.declared.started_zone.StartedZone.TheVariants.{Zone, Store}
 

@@ -63,13 +63,13 @@ impl<'a, S, C> CountedStore<'a, S, C> {
 }
 
 impl<S, C: Clock> CountedStore<'_, S, C> {
-    /// Shows that a batch begins, where none has been written since the last one ended.
-    fn begin(&self) {
+    /// Shows that a batch starts, where none has been written since the last one ended.
+    fn start_batch(&self) {
         if self.is_written {
             return;
         }
         if let Some(work) = &self.work {
-            work.begin(nanos_of(self.clock) / 1_000_000);
+            work.start_work(nanos_of(self.clock) / 1_000_000);
         }
     }
 
@@ -92,7 +92,7 @@ impl<S: UpdateStore, C: Clock> UpdateStore for CountedStore<'_, S, C> {
     ghost leaves = { S.leaves };
 
     fn tend<R: Wait>(&mut self, rt: &R, alloc: Global) {
-        self.begin();
+        self.start_batch();
         self.store.tend(rt, alloc);
         self.end();
         self.is_written = false;

@@ -1,7 +1,7 @@
 //! Starting a server whose updates survive a restart.
 ghost use Rattle.std.specs.Prelude.{IfOk};
 ghost use Rattle.dnsd_setup.specs.Starts.{CanStart};
-ghost use Rattle.store_server.specs.Opened.{IsGiven};
+ghost use Rattle.store_server.specs.OpenStore.{IsGiven};
 
 use crate::started_zone::{StartedStore, StartedZone};
 use crate::zone_file::tell_zone;
@@ -142,7 +142,7 @@ fn tell_refusal<R: Env + AllocGlobal + Eprint>(
         Refusal::Text(fault) => return tell_zone(rt, text, fault),
         Refusal::Held => eprintln!(rt; "{mark}error: the store '{dir}' is held by another server"),
         Refusal::NoJournal(number) => eprintln!(rt;
-            "{mark}error: the store '{dir}' has the zone text '{dir}/zone-{number}', and no journal, which had the updates since: put the journal back, or move the zone texts out of the directory to begin from the zone's text"
+            "{mark}error: the store '{dir}' has the zone text '{dir}/zone-{number}', but no journal, which has the updates since: put the journal back, or move the zone texts out of the directory to create a new store from ZONE"
         ),
         Refusal::NoText(number) => eprintln!(rt;
             "{mark}error: the journal of '{dir}' belongs to '{dir}/zone-{number}', which isn't there"
@@ -154,14 +154,14 @@ fn tell_refusal<R: Env + AllocGlobal + Eprint>(
         Refusal::Newer { has, given } => {
             let (has, given) = (has.0, given.0);
             eprintln!(rt;
-                "{mark}error: the zone's text is another one than the store '{dir}' was begun from, and has the serial {given}, greater than the store's {has}: --take store serves the store, --take zone changes it to the text"
+                "{mark}error: ZONE has changed since the store '{dir}' was created, and its serial {given} is newer than the store's {has}: --take store serves the store, --take zone changes it to ZONE"
             )
         }
         Refusal::NoChange(fault) => eprintln!(rt;
             "{mark}error: --take zone: the store '{dir}' can't be changed to the zone's text: {fault}"
         ),
         Refusal::TooLarge => eprintln!(rt;
-            "{mark}error: --take zone: the change from the store '{dir}' to the zone's text has more records than one update may have: move the store out of the way to begin from the text"
+            "{mark}error: --take zone: the change from the store '{dir}' to the zone's text has more records than one update may have: move the store out of the way to create a new one from ZONE"
         ),
         Refusal::OtherApex { has, given } => eprintln!(rt;
             "{mark}error: the zone's text has the apex {given}, and the store '{dir}' the apex {has}: give --origin {has}, if that zone is meant, or else --store a new directory"

@@ -82,7 +82,7 @@ struct ErrorLines<E> {
 
 impl<E: Eprint + AllocGlobal + Wait + Clock> Sink<Entry> for ErrorLines<E> {
     fn put<R: Wait>(&mut self, _rt: &R, next: NextLine<Entry>) {
-        self.begin();
+        self.start_work();
         let NextLine { lost, line } = next;
         if lost > 0 {
             let mark = Level::Warning.mark(self.in_journal);
@@ -98,7 +98,7 @@ impl<E: Eprint + AllocGlobal + Wait + Clock> Sink<Entry> for ErrorLines<E> {
     }
 
     fn idle(&mut self) -> Option<Duration> {
-        self.begin();
+        self.start_work();
         let peers = self.write_peers();
         let status = self.follow_status();
         self.end();
@@ -111,14 +111,14 @@ impl<E: Eprint + AllocGlobal + Wait + Clock> Sink<Entry> for ErrorLines<E> {
 }
 
 impl<E: Eprint + AllocGlobal + Wait + Clock> ErrorLines<E> {
-    /// Shows that the thread begins to write, or has got on with it.
-    fn begin(&self) {
+    /// Shows that the thread starts to write, or goes on with it.
+    fn start_work(&self) {
         if let Some(seen) = &self.seen {
             let now = match self.rt.monotonic() {
                 Ok(now) => u64::try_from(now.as_millis()).unwrap_or(u64::MAX),
                 Err(_) => 0,
             };
-            seen.work.begin(now);
+            seen.work.start_work(now);
         }
     }
 

@@ -5,17 +5,17 @@
 //! or names another resource.
 #![tactic(auto)]
 
-mod asked;
 mod graph;
 mod health;
 mod html;
 mod overview;
 mod page;
+mod page_request;
 mod reply;
 
-pub use asked::{Asked, MAX_HEAD, asked_by};
 pub use graph::Graph;
 pub use health::{Health, MAX_BUSY, health_of};
 pub use overview::{Line, Overview, Secondary};
 pub use page::write_page;
+pub use page_request::{MAX_HEAD, PageRequest, asked_by};
 pub use reply::{Content, Status, write_reply};

@@ -62,11 +62,11 @@ impl<'a> Lexer<'a> {
     /// Takes the octet at a position.
     fn step(&mut self, at: usize, octet: u8) -> Result<(), KeyFileFault> {
         match self.state {
-            State::Blank => self.begin(at, octet)?,
+            State::Blank => self.start_token(at, octet)?,
             State::Word(start) => {
                 if ends_word(octet) {
                     self.put_word(start, at)?;
-                    self.begin(at, octet)?;
+                    self.start_token(at, octet)?;
                 }
             }
             State::Quoted(start) => {
@@ -96,7 +96,7 @@ impl<'a> Lexer<'a> {
     }
 
     /// Takes the octet at a position, before which nothing is open.
-    fn begin(&mut self, at: usize, octet: u8) -> Result<(), KeyFileFault> {
+    fn start_token(&mut self, at: usize, octet: u8) -> Result<(), KeyFileFault> {
         let next = self.text.get(at.saturating_add(1)).copied();
         self.state = match (octet, next) {
             (b'#', _) | (b'/', Some(b'/')) => State::LineComment,

@@ -6,7 +6,7 @@ ghost use Rattle.serve_core.specs.declared.transport.Transport.TheVariants.{Tcp}
 ghost use Rattle.requests.specs.Served.{Grows};
 ghost use Rattle.tcp_connections.specs.Served.{EndsAs};
 ghost use Rattle.requests.specs.Exchanged.{EndsBy};
-ghost use Rattle.tcp_connections.specs.Asked.{EachGrows};
+ghost use Rattle.tcp_connections.specs.Requests.{EachGrows};
 ghost use Rattle.memory_devices.specs.MemoryStream.{stream_octets};
 ghost use Rattle.memory_devices.specs.MemoryDatagrams.{datagram_octets};
 

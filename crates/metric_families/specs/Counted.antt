@@ -21,7 +21,7 @@ use Rattle.counters.specs.AddressFamilies.{address_family_word}
 use Rattle.counters.specs.ConnectionEnds.{all_connection_ends, connection_end_word}
 use Rattle.metric_families.specs.Samples.{two_labels}
 use Rattle.metric_families.specs.Times.{times_family}
-use Rattle.metric_families.specs.Told.{labelled_family, pair_family, plain_family}
+use Rattle.metric_families.specs.Families.{labelled_family, pair_family, plain_family}
 
 -- the ways by which requests come
 abbrev pub all_ways : List (Transport × AddressFamily)

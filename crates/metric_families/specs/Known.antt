@@ -5,7 +5,7 @@ use Rattle.metrics_text.specs.declared.number.Number.TheVariants.{Nanoseconds}
 use Rattle.metrics_text.specs.Families.{FamilyOf, empty_family, with_sample, with_samples}
 use Rattle.metrics_text.specs.Samples.{SampleOf, plain_sample}
 use Rattle.metric_families.specs.Samples.{one_label, two_labels}
-use Rattle.metric_families.specs.Told.{plain_family, one_family, labelled_family}
+use Rattle.metric_families.specs.Families.{plain_family, one_family, labelled_family}
 
 -- what the system knows of the process: for how long it has run, in nanoseconds, its memory and its addresses, in octets
 abbrev pub process_told : ℕ → ℕ → ℕ → List FamilyOf

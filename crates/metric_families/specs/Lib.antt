@@ -2,4 +2,4 @@ pub mod Counted
 pub mod Known
 pub mod Samples
 pub mod Times
-pub mod Told
+pub mod Families

@@ -13,7 +13,7 @@ ghost use Rattle.serve_core.specs.Transport.{limit_of, room_of};
 
 use crate::heading::reply_opt;
 use crate::transport::Transport;
-use dns_message::{MIN_LIMIT, Query, Question, Reply, write_reply, write_reply_by};
+use dns_message::{MIN_LIMIT, Query, Question, Reply, write_reply_by};
 use dns_rdata::{Class, RType, Rcode, Shown};
 use lookup_core::{First, Front, More, additional_of, fill_front, first_look, may_name_hosts};
 use std::slice;
@@ -36,13 +36,13 @@ pub(crate) fn respond_to_query<Z: ZoneRead>(
 {
     let question = &query.question;
     if question.class != Class::IN {
-        return write_refused(query, Rcode::Refused, transport, out);
+        return write_refused(names, query, Rcode::Refused, transport, out);
     }
     if question.rtype == RType::MAILB || question.rtype == RType::MAILA {
-        return write_unanswered(query, Rcode::NotImp, transport, out);
+        return write_unanswered(names, query, Rcode::NotImp, transport, out);
     }
     if !question.name.is_under(zone.apex()) {
-        return write_refused(query, Rcode::Refused, transport, out);
+        return write_refused(names, query, Rcode::Refused, transport, out);
     }
     write_answer(names, zone, query, transport, out)
 }
@@ -170,6 +170,7 @@ fn write_with_hosts<'a, Z: ZoneRead>(
 
 /// Writes a code that refuses a query, with the question.
 pub(crate) fn write_refused(
+    names: &mut NameWriter,
     query: &Query,
     rcode: Rcode,
     transport: Transport,
@@ -183,12 +184,13 @@ pub(crate) fn write_refused(
         question: Some(&query.question),
         ..unanswered(query, rcode)
     };
-    write_reply(&reply, transport.limit(query.edns), out)
+    write_reply_by(names, &reply, transport.limit(query.edns), out)
 }
 
 /// Writes a code to a query that isn't answered: after its header alone where it has no OPT, else with the question and an OPT
 /// (RFC 1035, 4.1.1; RFC 6891, 6.1.1; own).
 pub(crate) fn write_unanswered(
+    names: &mut NameWriter,
     query: &Query,
     rcode: Rcode,
     transport: Transport,
@@ -198,7 +200,12 @@ pub(crate) fn write_unanswered(
     ensures octets { take result out.new ≡ fit (unanswered query.now rcode) (limit_of transport query.now.edns) }
     ensures len { result ≤ limit_of transport query.now.edns }
 {
-    write_reply(&unanswered(query, rcode), transport.limit(query.edns), out)
+    write_reply_by(
+        names,
+        &unanswered(query, rcode),
+        transport.limit(query.edns),
+        out,
+    )
 }
 
 /// A code to a query that isn't answered.

@@ -147,11 +147,17 @@ pub fn respond_by<Z: ZoneRead>(
     if question.class != Class::IN || !asks_transfer(question) {
         return respond_to_query(names, zone, query, peer.transport, out);
     }
-    refuse_transfer(zone, query, peer, out)
+    refuse_transfer(names, zone, query, peer, out)
 }
 
 /// `respond_to_peer` of a question for a transfer: which refusal it gets (RFC 1995, 2; RFC 5936, 2.2.1; own).
-fn refuse_transfer<Z: ZoneRead>(zone: &Z, query: &Query, peer: Peer, out: &mut [u8]) -> usize
+fn refuse_transfer<Z: ZoneRead>(
+    names: &mut NameWriter,
+    zone: &Z,
+    query: &Query,
+    peer: Peer,
+    out: &mut [u8],
+) -> usize
     requires room { room_of peer.transport ≤ length out.old }
     requires class { query.now.question.class.0 ≡ class_IN }
     requires transfer { asks_transfer query.now.question ≡ true }
@@ -161,12 +167,12 @@ fn refuse_transfer<Z: ZoneRead>(zone: &Z, query: &Query, peer: Peer, out: &mut [
 {
     let transport = peer.transport;
     if is_unfit(peer, query) {
-        return write_unanswered(query, Rcode::FormErr, transport, out);
+        return write_unanswered(names, query, Rcode::FormErr, transport, out);
     }
     if query.question.name != *zone.apex() {
-        return write_refused(query, Rcode::NotAuth, transport, out);
+        return write_refused(names, query, Rcode::NotAuth, transport, out);
     }
-    write_refused(query, Rcode::Refused, transport, out)
+    write_refused(names, query, Rcode::Refused, transport, out)
 }
 
 /// Whether a question for a transfer is none: an AXFR over UDP, or an IXFR that doesn't tell what is held

@@ -235,7 +235,7 @@ pub struct ThreadSpec<'a> {
     /// The worker's number, from 1.
     pub worker: usize,
     /// The worker's limit, which its threads share.
-    pub progress: &'a WorkLimit,
+    pub limit: &'a WorkLimit,
     /// What the thread serves.
     pub sockets: Sockets,
 }
@@ -244,7 +244,7 @@ impl<'a> Drop for ThreadSpec<'a> {
     fn drop(self) {
         let ThreadSpec {
             worker: _,
-            progress: _,
+            limit: _,
             sockets: _,
         } = self;
     }
@@ -267,10 +267,10 @@ impl<'a> ThreadSpec<'a> {
     {
         let ThreadSpec {
             worker,
-            progress,
+            limit,
             sockets,
         } = self;
-        let stop = StopFlag::new(plan.shutdown, progress);
+        let stop = StopFlag::new(plan.shutdown, limit);
         sockets.into_job(rt, alloc, worker, stop, plan, wakes, shown, scratch)
     }
 }

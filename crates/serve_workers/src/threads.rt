@@ -2,7 +2,7 @@
 ghost use Rattle.std.specs.Prelude.{◌≡◌, Some, map};
 ghost use Rattle.requests.specs.Served.{BeginsWith};
 ghost use Rattle.serve_workers.specs.Numbers.{number_of, end_of};
-ghost use Rattle.tcp_connections.specs.Asked.{EachGrows};
+ghost use Rattle.tcp_connections.specs.Requests.{EachGrows};
 ghost use Rattle.zone_tree.specs.Version.{Version};
 
 use crate::counted_jobs::CountedJob;

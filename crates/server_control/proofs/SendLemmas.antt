@@ -15,17 +15,17 @@ use Rattle.server_control.specs.contracts.control_job.ControlJob as control
 use Rattle.server_control.specs.contracts.metrics_client.MetricsClient as client
 use Rattle.server_control.specs.contracts.metrics_job.MetricsJob as metrics
 use Rattle.server_control.specs.contracts.metrics_job.MetricsPlan as plan
-use Rattle.server_control.specs.contracts.reload_slot.Progress as progress
+use Rattle.server_control.specs.contracts.reload_slot.ReloadState as state
 use Rattle.server_control.specs.contracts.reload_slot.ReloadSlot as slot
 
-progress_send : IsSend progress.the_row
-progress_send = search (engine.shared_send, array_vec.the_send, option.the_field_send, crossing.crosses, sendable) depth 60 fits 20000
+state_send : IsSend state.the_row
+state_send = search (engine.shared_send, array_vec.the_send, option.the_field_send, crossing.crosses, sendable) depth 60 fits 20000
 
 pub slot_send : IsSend slot.the_row
-slot_send = search (mutex.the_send, progress_send, crossing.crosses, sendable) depth 60 fits 20000
+slot_send = search (mutex.the_send, state_send, crossing.crosses, sendable) depth 60 fits 20000
 
 pub slot_sync : IsSync slot.the_row
-slot_sync = recorded_sync (slot.the_field).row _ _ (slot.the_type).to_one (struct_sync (shape (slot.the_type)) (mutex.the_sync _ progress_send, (search (crossing.crosses, sendable) depth 60 fits 20000, tt)))
+slot_sync = recorded_sync (slot.the_field).row _ _ (slot.the_type).to_one (struct_sync (shape (slot.the_type)) (mutex.the_sync _ state_send, (search (crossing.crosses, sendable) depth 60 fits 20000, tt)))
 
 pub control_send : (a : NamedLft) (C : RattleType) → IsSync C → IsSend (control.the_field a C).row
 control_send a C ticks = search (slot_send, slot_sync, counted.server_sync, option.the_field_send, option.the_send, global.the_field_send, crossing.crosses, sendable) depth 60 fits 20000

@@ -7,7 +7,9 @@ use dns_rdata::Rcode;
 use std::alloc::{AllocError, Global};
 use std::sync::Wait;
 use zone_change::ChangeSummary;
-use zone_server::{Event, Fetched, LocalUpdates, Serials, ServiceLog, UpdateResult, WaitingTicket};
+use zone_server::{
+    Event, LocalUpdates, Serials, ServiceLog, TicketPoll, UpdateResult, WaitingTicket,
+};
 
 /// How far a reload is. It can't be dropped: its update may wait for its result.
 pub(crate) enum Reload {
@@ -142,15 +144,15 @@ pub(crate) fn after_judging<R: Wait, A: LocalUpdates, L: ServiceLog>(
 {
     let (ticket, summary, is_held) = judged;
     let done = match handler.result_at(rt, ticket) {
-        Fetched::Pending(ticket) => {
+        TicketPoll::Pending(ticket) => {
             return Ok(Step::GoesOn(Reload::Judged {
                 ticket,
                 summary,
                 is_held,
             }));
         }
-        Fetched::Unknown => return failed(alloc, "the update's result is lost"),
-        Fetched::Ready(done) => done,
+        TicketPoll::Unknown => return failed(alloc, "the update's result is lost"),
+        TicketPoll::Ready(done) => done,
     };
     match done.code {
         Rcode::NoError => {

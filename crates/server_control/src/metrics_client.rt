@@ -1,5 +1,5 @@
 //! A client of the metrics, as the server has it.
-use http_page::{Asked, MAX_HEAD, asked_by};
+use http_page::{MAX_HEAD, PageRequest, asked_by};
 use std::alloc::Global;
 use std::io::{ErrorKind, Read, Write};
 use std::net::{TcpListener, TcpStream};
@@ -55,10 +55,10 @@ pub(crate) fn accept_client(
 
 impl MetricsClient {
     /// Reads what the client has sent, and gives what it asks for once the head of its request is whole.
-    pub(crate) fn hear(&mut self, now: u64) -> Asked {
+    pub(crate) fn hear(&mut self, now: u64) -> PageRequest {
         let is_late = self.is_late(now);
         let Stage::Sends(_) = &self.stage else {
-            return Asked::More;
+            return PageRequest::More;
         };
         let mut room = [0u8; 1024];
         match self.stream.read(&mut room) {
@@ -67,21 +67,21 @@ impl MetricsClient {
             Err(fault) if is_later(fault.kind()) && !is_late => {}
             Err(_) => self.stage = Stage::Gone,
         }
-        Asked::More
+        PageRequest::More
     }
 
     /// Takes octets that have come, and gives what is asked for once the head is whole: the client then waits for its reply.
-    fn take(&mut self, octets: &[u8]) -> Asked {
+    fn take(&mut self, octets: &[u8]) -> PageRequest {
         let Stage::Sends(head) = &mut self.stage else {
-            return Asked::More;
+            return PageRequest::More;
         };
         let left = MAX_HEAD.saturating_sub(head.len()).min(octets.len());
         if head.extend_from_slice(&octets[..left]).is_err() {
             self.stage = Stage::Gone;
-            return Asked::More;
+            return PageRequest::More;
         }
         let asked = asked_by(head.as_slice());
-        if asked != Asked::More {
+        if asked != PageRequest::More {
             self.stage = Stage::Waits;
         }
         asked

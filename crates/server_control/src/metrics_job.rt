@@ -15,7 +15,8 @@ use counters::{
     AddressFamily, Counter, Counters, Opcode, SecondaryCounters, ServerCounters, Transport,
 };
 use http_page::{
-    Asked, Content, Health, Line, Overview, Secondary, Status, health_of, write_page, write_reply,
+    Content, Health, Line, Overview, PageRequest, Secondary, Status, health_of, write_page,
+    write_reply,
 };
 use log_lines::RecentLines;
 use metric_families::StoreFacts;
@@ -272,9 +273,9 @@ impl<'a, C: Clock> MetricsJob<'a, C> {
     {
         let asked = match self.clients.get_mut(at) {
             Some(client) => client.hear(now),
-            None => Asked::More,
+            None => PageRequest::More,
         };
-        if asked == Asked::More {
+        if asked == PageRequest::More {
             return;
         }
         self.served = self.served.saturating_add(1);
@@ -292,18 +293,20 @@ impl<'a, C: Clock> MetricsJob<'a, C> {
         &mut self,
         rt: &R,
         handler: &mut A,
-        asked: Asked,
+        asked: PageRequest,
         now: u64,
     ) -> Result<Vec<u8>, AllocError>
         ensures grows { Grows (A.seen handler.new) (A.seen handler.old) }
         ensures number { self.new.number ≡ self.old.number }
     {
         match asked {
-            Asked::Metrics | Asked::Page => self.reply_of_version(rt, handler, asked, now),
-            Asked::Health => self.health(rt, now),
-            Asked::Unknown => empty(self.alloc, Status::NotFound),
-            Asked::OtherMethod => empty(self.alloc, Status::MethodNotAllowed),
-            Asked::Bad | Asked::More => empty(self.alloc, Status::BadRequest),
+            PageRequest::Metrics | PageRequest::Page => self.reply_of_version(
+                rt, handler, asked, now,
+            ),
+            PageRequest::Health => self.health(rt, now),
+            PageRequest::Unknown => empty(self.alloc, Status::NotFound),
+            PageRequest::OtherMethod => empty(self.alloc, Status::MethodNotAllowed),
+            PageRequest::Bad | PageRequest::More => empty(self.alloc, Status::BadRequest),
         }
     }
 
@@ -312,7 +315,7 @@ impl<'a, C: Clock> MetricsJob<'a, C> {
         &mut self,
         rt: &R,
         handler: &mut A,
-        asked: Asked,
+        asked: PageRequest,
         now: u64,
     ) -> Result<Vec<u8>, AllocError>
         ensures grows { Grows (A.seen handler.new) (A.seen handler.old) }
@@ -321,7 +324,7 @@ impl<'a, C: Clock> MetricsJob<'a, C> {
         let Ok(version) = handler.last_version(rt) else {
             return empty(self.alloc, Status::Unavailable);
         };
-        if asked == Asked::Metrics {
+        if asked == PageRequest::Metrics {
             self.metrics(rt, version.get(), now)
         } else {
             self.page(rt, version.get(), now)

@@ -47,7 +47,7 @@ pub enum ReloadOrder {
 
 /// How far a reload is.
 #[derive(Drop)]
-enum Progress {
+enum ReloadState {
     /// There is none.
     Idle,
     /// There is something to do.
@@ -62,17 +62,14 @@ enum Progress {
 
 /// The place where one thread orders a reload, and another one, which reads the zone file, puts the result.
 pub struct ReloadSlot {
-    progress: Mutex<Progress>,
+    state: Mutex<ReloadState>,
     /// Tells the thread that reads that something has come.
     came: Condvar,
 }
 
 impl Drop for ReloadSlot {
     fn drop(self) {
-        let ReloadSlot {
-            progress: _,
-            came: _,
-        } = self;
+        let ReloadSlot { state: _, came: _ } = self;
     }
 }
 
@@ -80,30 +77,30 @@ impl ReloadSlot {
     /// A place without an order.
     pub fn new() -> ReloadSlot {
         ReloadSlot {
-            progress: Mutex::new(Progress::Idle),
+            state: Mutex::new(ReloadState::Idle),
             came: Condvar::new(),
         }
     }
 
     /// Orders something. False where an order isn't done yet, or none comes any more.
     pub fn order<R: Wait>(&self, rt: &R, order: ReloadOrder) -> bool {
-        let mut progress = self.progress.lock(rt);
-        if !is_free(&progress) {
+        let mut state = self.state.lock(rt);
+        if !is_free(&state) {
             return false;
         }
-        *progress = Progress::Ordered(order);
-        mem::drop(progress);
+        *state = ReloadState::Ordered(order);
+        mem::drop(state);
         self.came.notify_one();
         true
     }
 
     /// The result of the order, if it is there. Another one can be given then.
     pub fn take<R: Wait>(&self, rt: &R) -> Option<ReloadResult> {
-        let mut progress = self.progress.lock(rt);
-        match mem::replace(&mut *progress, Progress::Idle) {
-            Progress::Made(made) => Some(made),
+        let mut state = self.state.lock(rt);
+        match mem::replace(&mut *state, ReloadState::Idle) {
+            ReloadState::Made(made) => Some(made),
             other => {
-                *progress = other;
+                *state = other;
                 None
             }
         }
@@ -111,14 +108,14 @@ impl ReloadSlot {
 
     /// Waits for an order. None where none comes any more.
     pub fn wait<R: Wait>(&self, rt: &R) -> Option<ReloadOrder> {
-        let guard = self.progress.lock(rt);
-        let mut progress = self
+        let guard = self.state.lock(rt);
+        let mut state = self
             .came
-            .wait_while(rt, guard, |progress| !is_for_reader(progress));
-        match mem::replace(&mut *progress, Progress::Working) {
-            Progress::Ordered(order) => Some(order),
+            .wait_while(rt, guard, |state| !is_for_reader(state));
+        match mem::replace(&mut *state, ReloadState::Working) {
+            ReloadState::Ordered(order) => Some(order),
             other => {
-                *progress = other;
+                *state = other;
                 None
             }
         }
@@ -126,36 +123,36 @@ impl ReloadSlot {
 
     /// Puts the result of an order that has one.
     pub fn put<R: Wait>(&self, rt: &R, made: ReloadResult) {
-        let mut progress = self.progress.lock(rt);
-        if let Progress::Working = &*progress {
-            *progress = Progress::Made(made);
+        let mut state = self.state.lock(rt);
+        if let ReloadState::Working = &*state {
+            *state = ReloadState::Made(made);
         }
     }
 
     /// An order that has no result is done.
     pub fn rest<R: Wait>(&self, rt: &R) {
-        let mut progress = self.progress.lock(rt);
-        if let Progress::Working = &*progress {
-            *progress = Progress::Idle;
+        let mut state = self.state.lock(rt);
+        if let ReloadState::Working = &*state {
+            *state = ReloadState::Idle;
         }
     }
 
     /// Ends it: no order comes any more.
     pub fn end<R: Wait>(&self, rt: &R) {
-        *self.progress.lock(rt) = Progress::Ended;
+        *self.state.lock(rt) = ReloadState::Ended;
         self.came.notify_all();
     }
 }
 
 /// Whether something can be ordered: a zone that is to be dropped may be dropped for that.
-fn is_free(progress: &Progress) -> bool {
+fn is_free(state: &ReloadState) -> bool {
     matches!(
-        progress,
-        Progress::Idle | Progress::Ordered(ReloadOrder::Drop)
+        state,
+        ReloadState::Idle | ReloadState::Ordered(ReloadOrder::Drop)
     )
 }
 
 /// Whether the thread that reads has something to do, or is to end.
-fn is_for_reader(progress: &Progress) -> bool {
-    matches!(progress, Progress::Ordered(_) | Progress::Ended)
+fn is_for_reader(state: &ReloadState) -> bool {
+    matches!(state, ReloadState::Ordered(_) | ReloadState::Ended)
 }

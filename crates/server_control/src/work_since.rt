@@ -25,8 +25,8 @@ impl WorkSince {
         }
     }
 
-    /// Shows that the thread begins with work, at a time in milliseconds.
-    pub fn begin(&self, now: u64) {
+    /// Shows that the thread starts work, at a time in milliseconds.
+    pub fn start_work(&self, now: u64) {
         self.since.store(now, Ordering::SeqCst);
     }
 

@@ -3,8 +3,8 @@ use Rattle.std.proofs.Common.{◌≡◌, ℕ, List, [], sym, subst}
 use Rattle.tcp_connections.specs.Served.{Knowledge, Extends}
 use Rattle.tcp_connections.proofs.TurnLemmas.{extends_itself}
 use Rattle.serve_core.specs.declared.peer.Peer.{Peer}
-use Rattle.tcp_connections.specs.Asked.{EachGrows}
-use Rattle.tcp_connections.proofs.AskedLemmas.{each_more, each_as}
+use Rattle.tcp_connections.specs.Requests.{EachGrows}
+use Rattle.tcp_connections.proofs.RequestLemmas.{each_more, each_as}
 use Rattle.rights.specs.declared.rule.Rule.{Rule}
 use Rattle.tsig.specs.Keys.{SharedKey}
 use Rattle.tsig.specs.declared.request_tsig.RequestTsig.{RequestTsig}

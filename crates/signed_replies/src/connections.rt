@@ -6,7 +6,7 @@ ghost use Rattle.requests.specs.declared.stream_end.StreamEnd.{StreamEnd as EndO
 ghost use Rattle.requests.specs.Octets.{messages_in};
 ghost use Rattle.signed_replies.specs.Signed.{received, plain_of, IsReplyBy, IsReplyTo, IsSignedReply, IsLaterBy, IsLaterTo};
 ghost use Rattle.signed_replies.specs.Stream.{AreSignedInOrder, stream_by};
-ghost use Rattle.tcp_connections.specs.Asked.{EachGrows};
+ghost use Rattle.tcp_connections.specs.Requests.{EachGrows};
 ghost use Rattle.tsig.specs.declared.verifying.Verification.TheVariants.{Signed as signed_by};
 ghost use Rattle.tcp_connections.specs.Kept.{messages_of};
 ghost use Rattle.tcp_connections.specs.declared.handler.Reply.{Reply as ReplyOf};
@@ -217,7 +217,7 @@ impl<
     }
 
     /// Answers a request that the holder of a key signed, and signs the reply.
-    #[tactic(auto, using(tcp_connections::proofs::AskedLemmas::each_itself))]
+    #[tactic(auto, using(tcp_connections::proofs::RequestLemmas::each_itself))]
     fn reply_signed<R: Wait>(
         &mut self,
         rt: &R,
@@ -252,7 +252,7 @@ impl<
     }
 
     /// Answers a request by what it is by its TSIG (RFC 8945, 5.2).
-    #[tactic(auto, using(tcp_connections::proofs::AskedLemmas::each_itself))]
+    #[tactic(auto, using(tcp_connections::proofs::RequestLemmas::each_itself))]
     fn reply_by<R: Wait>(
         &mut self,
         rt: &R,
@@ -444,7 +444,7 @@ impl<'r, 'k, K: KeyRing, M: Messages, A: Handler<M>, C: UnixClock, O: TsigLog + 
         self.peer = other;
     }
 
-    #[tactic(auto, using(tcp_connections::proofs::AskedLemmas::each_itself))]
+    #[tactic(auto, using(tcp_connections::proofs::RequestLemmas::each_itself))]
     fn reply<R: Wait>(
         &mut self,
         rt: &R,
@@ -465,7 +465,7 @@ impl<'r, 'k, K: KeyRing, M: Messages, A: Handler<M>, C: UnixClock, O: TsigLog + 
         self.reply_message(rt, &Message::new(request), request, out)
     }
 
-    #[tactic(auto, using(tcp_connections::proofs::AskedLemmas::each_itself))]
+    #[tactic(auto, using(tcp_connections::proofs::RequestLemmas::each_itself))]
     fn prepare<R: Wait>(&mut self, rt: &R, between: usize, request: &[u8], out: &mut [u8]) -> bool {
         if request.len() < HEADER || request.len() > MAX_LIMIT {
             return false;

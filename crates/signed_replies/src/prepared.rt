@@ -1,7 +1,7 @@
 //! Requests of connections that are signed, and are taken up before their turn (RFC 8945, 5.2).
 ghost use Rattle.std.specs.Prelude.{◌≡◌, ◌≤◌, length};
 ghost use Rattle.dns_message.specs.Message.{message_limit};
-ghost use Rattle.tcp_connections.specs.Asked.{EachGrows};
+ghost use Rattle.tcp_connections.specs.Requests.{EachGrows};
 ghost use Rattle.zone_tree.specs.Version.{Version};
 
 use crate::clock::UnixClock;
@@ -45,7 +45,7 @@ impl<
     O: TsigLog + Drop,
 > SignedConnections<'r, 'k, K, M, A, C, O> {
     /// Takes up a request that the holder of a key signed, as that of the peer that gets its reply, and keeps when it was verified if its reply is made later.
-    #[tactic(auto, using(tcp_connections::proofs::AskedLemmas::each_itself))]
+    #[tactic(auto, using(tcp_connections::proofs::RequestLemmas::each_itself))]
     fn prepare_signed<R: Wait>(
         &mut self,
         rt: &R,
@@ -78,7 +78,7 @@ impl<
     }
 
     /// Takes up a request that was read as a message, where its handler does: one without a TSIG, or without that which the holder of a key signed.
-    #[tactic(auto, using(tcp_connections::proofs::AskedLemmas::each_itself))]
+    #[tactic(auto, using(tcp_connections::proofs::RequestLemmas::each_itself))]
     pub(crate) fn prepare_message<R: Wait>(
         &mut self,
         rt: &R,

@@ -1,4 +1,4 @@
--- A trail as the end of a store, and what a compaction leaves.
+-- Recent updates as the end of a store, and what a compaction leaves.
 use Rattle.std.proofs.Common.{◌≡◌, ℕ, ◌+◌, ◌^◌, ◌<◌, ◌≤◌, List, [], ◌∷◌, ◌++◌, length, take, drop, map, refl, sym, ap, ◌∙◌, subst, append-nil, length-append, arith}
 use Rattle.std.specs.Prelude.{All}
 use Rattle.std.proofs.lemmas.List.{map-append, drop-append-le, take-append-le, length-map, length-drop, drop-drop}
@@ -28,7 +28,7 @@ use Rattle.store_recovery.specs.Behind.{AreBehind}
 use Rattle.store_recovery.proofs.CompactedLemmas.{replay_parts, replay_rest, compacted_store}
 use Rattle.store_compaction.specs.declared.marked.Compaction.{Compaction}
 use Rattle.update_batches.specs.declared.version_update.VersionUpdate.{VersionUpdate}
-use Rattle.store_compaction.specs.RecentUpdates.{TrailState, last_in, followed}
+use Rattle.store_compaction.specs.RecentUpdates.{RecentState, last_in, followed}
 use Rattle.update_batches.specs.Batch.{versions_in, updates_of}
 use Rattle.store_compaction.specs.Marked.{bodies_of, IsMarked}
 use Rattle.store_compaction.specs.End.{IsEndOf}
@@ -36,11 +36,11 @@ use Rattle.store_compaction.proofs.RecentLemmas.{versions-append, updates_of-app
 use Rattle.store_compaction.proofs.MadeLemmas.{Leads, made_leads, changes_both, read_both, read_behind, made_first}
 use Rattle.store_compaction.proofs.MarkedLemmas.{short_steps, one_more}
 
--- the last version of a store is the trail's
-pub last_is : (text : List ℕ) (head : Head) (batches : List (List Messages)) (zone : List Record) (updates : List Update) (trail : TrailState) (k : ℕ)
-    → IsEndOf text head batches zone updates trail k → (last_in trail).zone ≡ replay zone updates
-last_is text head batches zone updates trail k end =
-    let leads : Leads trail.oldest.zone (last_in trail).zone (updates_of trail.steps) = made_leads trail.oldest (versions_in trail.steps) (updates_of trail.steps) end.made in
+-- the last version of a store is that of its recent updates
+pub last_is : (text : List ℕ) (head : Head) (batches : List (List Messages)) (zone : List Record) (updates : List Update) (recent : RecentState) (k : ℕ)
+    → IsEndOf text head batches zone updates recent k → (last_in recent).zone ≡ replay zone updates
+last_is text head batches zone updates recent k end =
+    let leads : Leads recent.oldest.zone (last_in recent).zone (updates_of recent.steps) = made_leads recent.oldest (versions_in recent.steps) (updates_of recent.steps) end.made in
     let read : AreRead (drop k (updates_in batches)) (drop k updates) = read_behind k (updates_in batches) updates end.store.read in
     let others : leads.updates ≡ drop k updates =
     read_once (drop k (updates_in batches)) leads.updates (drop k updates) (subst (λ (ms : List Messages). AreRead ms leads.updates) end.rest leads.read) read in
@@ -70,26 +70,26 @@ store_more text head batches zone updates more batch store short few counted rea
 }
 
 -- the version behind steps that are let go
-record Moved (zone : List Record) (messages : List Messages) (updates : List Update) (trail after : TrailState) (k : ℕ) : Type 0 where
+record Moved (zone : List Record) (messages : List Messages) (updates : List Update) (recent after : RecentState) (k : ℕ) : Type 0 where
   n : ℕ
   within : k + n ≤ length updates
   oldest : after.oldest.zone ≡ replay zone (take (k + n) updates)
   rest : updates_of after.steps ≡ drop (k + n) messages
 
-moved : (zone : List Record) (messages : List Messages) (updates : List Update) (trail after : TrailState) (k : ℕ) (gone all : List VersionUpdate) → AreRead messages updates → k ≤ length updates
-    → trail.oldest.zone ≡ replay zone (take k updates) → updates_of all ≡ drop k messages → AreMadeBy trail.oldest (versions_in all) (updates_of all) → all ≡ gone ++ after.steps
-    → after.oldest ≡ newest_of trail.oldest (versions_in gone) → Moved zone messages updates trail after k
-moved zone messages updates trail after k gone all read within oldest rest made parts newest =
+moved : (zone : List Record) (messages : List Messages) (updates : List Update) (recent after : RecentState) (k : ℕ) (gone all : List VersionUpdate) → AreRead messages updates → k ≤ length updates
+    → recent.oldest.zone ≡ replay zone (take k updates) → updates_of all ≡ drop k messages → AreMadeBy recent.oldest (versions_in all) (updates_of all) → all ≡ gone ++ after.steps
+    → after.oldest ≡ newest_of recent.oldest (versions_in gone) → Moved zone messages updates recent after k
+moved zone messages updates recent after k gone all read within oldest rest made parts newest =
     let n : ℕ = length gone in
     let split : updates_of all ≡ updates_of gone ++ updates_of after.steps = ap updates_of parts ∙ updates_of-append gone after.steps in
     let versions : versions_in all ≡ versions_in gone ++ versions_in after.steps = ap versions_in parts ∙ versions-append gone after.steps in
-    let both : AreMadeBy trail.oldest (versions_in gone ++ versions_in after.steps) (updates_of gone ++ updates_of after.steps) =
-    subst (λ (us : List Messages). AreMadeBy trail.oldest (versions_in gone ++ versions_in after.steps) us) split
-    (subst (λ (vs : List Version). AreMadeBy trail.oldest vs (updates_of all)) versions made) in
+    let both : AreMadeBy recent.oldest (versions_in gone ++ versions_in after.steps) (updates_of gone ++ updates_of after.steps) =
+    subst (λ (us : List Messages). AreMadeBy recent.oldest (versions_in gone ++ versions_in after.steps) us) split
+    (subst (λ (vs : List Version). AreMadeBy recent.oldest vs (updates_of all)) versions made) in
     let many : length (versions_in gone) ≡ length (updates_of gone) =
     length-map gone (λ (s : VersionUpdate). s.version) ∙ sym (length-map gone (λ (s : VersionUpdate). s.messages)) in
-    let leads = made_leads trail.oldest (versions_in gone) (updates_of gone)
-    (made_first trail.oldest (versions_in gone) (versions_in after.steps) (updates_of gone) (updates_of after.steps) many both) in
+    let leads = made_leads recent.oldest (versions_in gone) (updates_of gone)
+    (made_first recent.oldest (versions_in gone) (versions_in after.steps) (updates_of gone) (updates_of after.steps) many both) in
     let dropped : drop k messages ≡ updates_of gone ++ updates_of after.steps = sym rest ∙ split in
     let behind : AreRead (updates_of gone ++ updates_of after.steps) (drop k updates) =
     subst (λ (ms : List Messages). AreRead ms (drop k updates)) dropped (read_behind k messages updates read) in
@@ -109,36 +109,36 @@ moved zone messages updates trail after k gone all read within oldest rest made 
     }
 
 -- a store with a batch more, once its steps follow
-pub end_more : (text : List ℕ) (head : Head) (batches : List (List Messages)) (zone : List Record) (updates : List Update) (trail : TrailState) (k : ℕ) (steps : List VersionUpdate)
-    → IsEndOf text head batches zone updates trail k → AreMadeBy (last_in trail) (versions_in steps) (updates_of steps)
+pub end_more : (text : List ℕ) (head : Head) (batches : List (List Messages)) (zone : List Record) (updates : List Update) (recent : RecentState) (k : ℕ) (steps : List VersionUpdate)
+    → IsEndOf text head batches zone updates recent k → AreMadeBy (last_in recent) (versions_in steps) (updates_of steps)
     → length (batch_of (updates_of steps)) < body_limit → length batches < 2 ^ 64
-    → (more : List Update) × (m : ℕ) × (k ≤ m) × IsEndOf text head (batches ++ updates_of steps ∷ []) zone (updates ++ more) (followed trail steps) m
-end_more text head batches zone updates trail k steps end made few counted =
+    → (more : List Update) × (m : ℕ) × (k ≤ m) × IsEndOf text head (batches ++ updates_of steps ∷ []) zone (updates ++ more) (followed recent steps) m
+end_more text head batches zone updates recent k steps end made few counted =
     let batch : List Messages = updates_of steps in
-    let leads = made_leads (last_in trail) (versions_in steps) batch made in
+    let leads = made_leads (last_in recent) (versions_in steps) batch made in
     let more : List Update = leads.updates in
-    let last : (last_in trail).zone ≡ replay zone updates = last_is text head batches zone updates trail k end in
+    let last : (last_in recent).zone ≡ replay zone updates = last_is text head batches zone updates recent k end in
     let store : IsStore text head (batches ++ batch ∷ []) zone (updates ++ more) =
     store_more text head batches zone updates more batch end.store (short_steps steps) few counted leads.read (subst (λ (z : List Record). EachChanges z more) last leads.taken) in
     let messages : List Messages = updates_in (batches ++ batch ∷ []) in
     let long : length updates ≡ length (updates_in batches) = read_long (updates_in batches) updates end.store.read in
-    let all : updates_of (trail.steps ++ steps) ≡ drop k messages =
-    updates_of-append trail.steps steps
+    let all : updates_of (recent.steps ++ steps) ≡ drop k messages =
+    updates_of-append recent.steps steps
     ∙ (ap (λ (us : List Messages). us ++ batch) end.rest
     ∙ (sym (drop-append-le k (updates_in batches) batch (omega (arith, end.within, long))) ∙ ap (λ (ms : List Messages). drop k ms) (sym (one_more batches batch)))) in
-    let whole : AreMadeBy trail.oldest (versions_in (trail.steps ++ steps)) (updates_of (trail.steps ++ steps)) =
-    subst (λ (us : List Messages). AreMadeBy trail.oldest (versions_in (trail.steps ++ steps)) us) (sym (updates_of-append trail.steps steps))
-    (subst (λ (vs : List Version). AreMadeBy trail.oldest vs (updates_of trail.steps ++ batch)) (sym (versions-append trail.steps steps))
-    (made_behind trail.oldest (versions_in trail.steps) (versions_in steps) (updates_of trail.steps) batch end.made made)) in
-    let split = followed_split trail steps in
-    let oldest : trail.oldest.zone ≡ replay zone (take k (updates ++ more)) =
+    let whole : AreMadeBy recent.oldest (versions_in (recent.steps ++ steps)) (updates_of (recent.steps ++ steps)) =
+    subst (λ (us : List Messages). AreMadeBy recent.oldest (versions_in (recent.steps ++ steps)) us) (sym (updates_of-append recent.steps steps))
+    (subst (λ (vs : List Version). AreMadeBy recent.oldest vs (updates_of recent.steps ++ batch)) (sym (versions-append recent.steps steps))
+    (made_behind recent.oldest (versions_in recent.steps) (versions_in steps) (updates_of recent.steps) batch end.made made)) in
+    let split = followed_split recent steps in
+    let oldest : recent.oldest.zone ≡ replay zone (take k (updates ++ more)) =
     end.oldest ∙ ap (λ (us : List Update). replay zone us) (sym (take-append-le k updates more end.within)) in
-    let move = moved zone messages (updates ++ more) trail (followed trail steps) k split.gone (trail.steps ++ steps) store.read
+    let move = moved zone messages (updates ++ more) recent (followed recent steps) k split.gone (recent.steps ++ steps) store.read
     (omega (arith, end.within, length-append updates more)) oldest all whole split.parts split.oldest in (
       more,
       k + move.n,
       omega arith,
-      record { store = store; within = move.within; oldest = move.oldest; rest = move.rest; made = (followed_is trail steps end.made made).0 },
+      record { store = store; within = move.within; oldest = move.oldest; rest = move.rest; made = (followed_is recent steps end.made made).0 },
     )
 
 -- updates, each as a batch of its own
@@ -167,21 +167,21 @@ alone_bodies : (updates : List Messages) → map (λ (one : Messages). batch_of 
 alone_bodies [] = refl
 alone_bodies (one ∷ updates) = ap (λ (bodies : List (List ℕ)). batch_of (one ∷ []) ∷ bodies) (alone_bodies updates)
 
--- what is kept of a trail is behind its oldest version
-pub behind_end : (text : List ℕ) (head : Head) (batches : List (List Messages)) (zone : List Record) (updates : List Update) (trail : TrailState) (k : ℕ)
-    → IsEndOf text head batches zone updates trail k → length trail.steps ≤ 8 → AreBehind k batches (alone (updates_of trail.steps))
-behind_end text head batches zone updates trail k end few = record {
-  all = alone_all (updates_of trail.steps) ∙ end.rest;
-  short = alone_short (updates_of trail.steps) (short_steps trail.steps);
-  fit = alone_fit 0 trail.steps (omega (arith, few));
+-- the recent updates that are kept come after their oldest version
+pub behind_end : (text : List ℕ) (head : Head) (batches : List (List Messages)) (zone : List Record) (updates : List Update) (recent : RecentState) (k : ℕ)
+    → IsEndOf text head batches zone updates recent k → length recent.steps ≤ 8 → AreBehind k batches (alone (updates_of recent.steps))
+behind_end text head batches zone updates recent k end few = record {
+  all = alone_all (updates_of recent.steps) ∙ end.rest;
+  short = alone_short (updates_of recent.steps) (short_steps recent.steps);
+  fit = alone_fit 0 recent.steps (omega (arith, few));
 }
 
-pub marked_end : (compaction : Compaction) (text : List ℕ) (head : Head) (batches : List (List Messages)) (zone : List Record) (updates : List Update) (trail : TrailState) (k : ℕ)
-    → bodies_of compaction ≡ map (λ messages. batch_of (messages ∷ [])) (updates_of trail.steps) → length trail.steps ≤ 8 → IsEndOf text head batches zone updates trail k → IsMarked k batches compaction
-marked_end compaction text head batches zone updates trail k bodies few end = record {
-  rest = alone (updates_of trail.steps);
-  behind = behind_end text head batches zone updates trail k end few;
-  bodies = bodies ∙ alone_bodies (updates_of trail.steps);
+pub marked_end : (compaction : Compaction) (text : List ℕ) (head : Head) (batches : List (List Messages)) (zone : List Record) (updates : List Update) (recent : RecentState) (k : ℕ)
+    → bodies_of compaction ≡ map (λ messages. batch_of (messages ∷ [])) (updates_of recent.steps) → length recent.steps ≤ 8 → IsEndOf text head batches zone updates recent k → IsMarked k batches compaction
+marked_end compaction text head batches zone updates recent k bodies few end = record {
+  rest = alone (updates_of recent.steps);
+  behind = behind_end text head batches zone updates recent k end few;
+  bodies = bodies ∙ alone_bodies (updates_of recent.steps);
 }
 
 -- what a compaction leaves is a store
@@ -205,11 +205,11 @@ compaction_started text written head next batches rest zone updates k start late
     let two = store_taken written next rest (replay zone (take k updates)) (drop k updates) later left is_later in
     (one.0 ∙ (sym (replay_rest zone updates k) ∙ sym two.0), omega (arith, few, one.1, two.1, length-drop k updates))
 
--- a trail of the store before is one of the store that is left
-pub end_left : (text written : List ℕ) (head next : Head) (batches rest : List (List Messages)) (zone : List Record) (updates : List Update) (trail : TrailState) (k m : ℕ)
-    → IsEndOf text head batches zone updates trail (k + m) → IsStore written next [] (replay zone (take k updates)) [] → AreBehind k batches rest
-    → IsEndOf written next rest (replay zone (take k updates)) (drop k updates) trail m
-end_left text written head next batches rest zone updates trail k m end begun behind = record {
+-- recent updates of the store before are those of the store that is left
+pub end_left : (text written : List ℕ) (head next : Head) (batches rest : List (List Messages)) (zone : List Record) (updates : List Update) (recent : RecentState) (k m : ℕ)
+    → IsEndOf text head batches zone updates recent (k + m) → IsStore written next [] (replay zone (take k updates)) [] → AreBehind k batches rest
+    → IsEndOf written next rest (replay zone (take k updates)) (drop k updates) recent m
+end_left text written head next batches rest zone updates recent k m end begun behind = record {
   store = compacted_store text written head next batches rest zone updates k end.store begun behind;
   within = omega (arith, end.within, length-drop k updates);
   oldest = end.oldest ∙ sym (replay_parts zone updates k m);

@@ -15,8 +15,8 @@ use Rattle.update_batches.specs.Batch.{versions_in, updates_of}
 use Rattle.update_batches.proofs.BatchLemmas.{last_once}
 use Rattle.update_batches.specs.Journal.{AreMadeBy}
 use Rattle.store_recovery.specs.Replay.{AreRead}
-use Rattle.store_compaction.specs.RecentUpdates.{TrailState, last_in}
-use Rattle.store_compaction.specs.Writer.{trail_of}
+use Rattle.store_compaction.specs.RecentUpdates.{RecentState, last_in}
+use Rattle.store_compaction.specs.Writer.{recent_of}
 use Rattle.store_compaction.proofs.MadeLemmas.{changes_both, replay_both, read_both}
 use Rattle.store_compaction.proofs.JudgedLemmas.{last_more}
 use Rattle.store_compaction.specs.Kept.{CompactedState, IsAt, IsTended, IsKept, HasMore, IsStored}
@@ -38,7 +38,7 @@ read_rest (message ∷ messages) later (update ∷ updates) more are all = read_
 module _ {F : Type 0} where
   -- of a store that stands
   pub has_begun : (text : List ℕ) (batches : List (List Messages)) (zone : List Record) (updates : List Update) (k : ℕ) (store : CompactedState F) (published : List Version)
-      → IsAt text batches zone updates k store → IsLast published (last_in (trail_of store.writer)) → HasUpdates zone store published (updates_in batches)
+      → IsAt text batches zone updates k store → IsLast published (last_in (recent_of store.writer)) → HasUpdates zone store published (updates_in batches)
   has_begun text batches zone updates k store published at last = record {
     in_text = [];
     in_journal = updates;
@@ -68,7 +68,7 @@ module _ {F : Type 0} where
         k = from.k;
         is_present = subst (λ (z : List Record). IsAt from.text from.batches z (drop from.n has.in_journal) from.k after)
             (sym (replay_both zone has.in_text (take from.n has.in_journal))) from.is_present;
-        last = subst (λ (t : TrailState). IsLast published (last_in t)) (sym tended.trail) has.last;
+        last = subst (λ (t : RecentState). IsLast published (last_in t)) (sym tended.recent) has.last;
       }
 
   -- of a store that stays
@@ -83,7 +83,7 @@ module _ {F : Type 0} where
     batches = has.batches;
     k = has.k;
     is_present = kept.is_present has.text has.batches (replay zone has.in_text) has.in_journal has.k has.is_present;
-    last = subst (λ (t : TrailState). IsLast published (last_in t)) (sym kept.trail) has.last;
+    last = subst (λ (t : RecentState). IsLast published (last_in t)) (sym kept.recent) has.last;
   }
 
   -- with one batch more
@@ -91,7 +91,7 @@ module _ {F : Type 0} where
       → (zone : List Record) (published : List Version) (updates : List Messages) (first : Version) → HasUpdates zone before published updates → IsLast published first
       → All IsRequest octets → AreMadeBy first versions octets → HasUpdates zone after (published ++ versions) (updates ++ octets)
   has_stored before after versions octets stored zone published updates first has last short written =
-      let old : TrailState = trail_of before.writer in
+      let old : RecentState = recent_of before.writer in
       let same : first ≡ last_in old = last_once published first (last_in old) last has.last in
       let made : AreMadeBy (last_in old) versions octets = subst (λ (v : Version). AreMadeBy v versions octets) same written in
       let with : HasMore has.text has.batches (replay zone has.in_text) has.in_journal octets after =

@@ -23,10 +23,10 @@ use Rattle.store_compaction.specs.declared.next.NextText.{NextText}
 use Rattle.update_batches.specs.declared.version_update.VersionUpdate.{VersionUpdate}
 use Rattle.store_compaction.specs.declared.writer.StoreWriter.{StoreWriter}
 use Rattle.store_compaction.specs.End.{IsEndOf}
-use Rattle.store_compaction.specs.RecentUpdates.{TrailState, IsTrail, last_in, followed}
+use Rattle.store_compaction.specs.RecentUpdates.{RecentState, AreRecent, last_in, followed}
 use Rattle.update_batches.specs.Batch.{versions_in, updates_of}
 use Rattle.store_compaction.specs.Marked.{number_of, IsMarked}
-use Rattle.store_compaction.specs.Writer.{log_of, trail_of, head_of, under_way_of, AreSteps, Adds, Begins}
+use Rattle.store_compaction.specs.Writer.{log_of, recent_of, head_of, under_way_of, AreSteps, Adds, Begins}
 use Rattle.store_compaction.proofs.RecentLemmas.{followed_is}
 use Rattle.store_compaction.proofs.EndLemmas.{end_more}
 use Rattle.store_compaction.proofs.MarkedLemmas.{one_more}
@@ -53,11 +53,11 @@ steps_made first versions octets steps are made =
     (subst (λ (vs : List Version). AreMadeBy first vs octets) (sym are.versions_are) made)
 
 -- what steps make follows
-pub last_follows : (old new : TrailState) (versions : List Version) (octets : List Messages) (steps : List VersionUpdate) → IsTrail old → AreSteps steps versions octets
-    → new ≡ followed old steps → AreMadeBy (last_in old) versions octets → IsTrail new × (last_in new ≡ newest_of (last_in old) versions)
-last_follows old new versions octets steps trail are is made =
-    let found = followed_is old steps trail (steps_made (last_in old) versions octets steps are made) in
-    (subst IsTrail (sym is) found.0, ap last_in is ∙ (found.1 ∙ ap (newest_of (last_in old)) are.versions_are))
+pub last_follows : (old new : RecentState) (versions : List Version) (octets : List Messages) (steps : List VersionUpdate) → AreRecent old → AreSteps steps versions octets
+    → new ≡ followed old steps → AreMadeBy (last_in old) versions octets → AreRecent new × (last_in new ≡ newest_of (last_in old) versions)
+last_follows old new versions octets steps recent are is made =
+    let found = followed_is old steps recent (steps_made (last_in old) versions octets steps are made) in
+    (subst AreRecent (sym is) found.0, ap last_in is ∙ (found.1 ∙ ap (newest_of (last_in old)) are.versions_are))
 
 module _ {F : Type 0} where
   -- nothing is stored
@@ -77,14 +77,14 @@ module _ {F : Type 0} where
   pub more_some : (text : List ℕ) (batches : List (List Messages)) (zone : List Record) (updates : List Update) (k : ℕ) (one : Messages) (others : List Messages)
       (before after : CompactedState F) (versions : List Version) (steps : List VersionUpdate)
       → IsAt text batches zone updates k before → Holds written synced (head_of before.writer) (log_of before.writer) (map batch_of batches)
-      → AreSteps steps versions (one ∷ others) → AreMadeBy (last_in (trail_of before.writer)) versions (one ∷ others)
-      → trail_of after.writer ≡ followed (trail_of before.writer) steps → head_of after.writer ≡ head_of before.writer → after.wanted ≡ before.wanted
+      → AreSteps steps versions (one ∷ others) → AreMadeBy (last_in (recent_of before.writer)) versions (one ∷ others)
+      → recent_of after.writer ≡ followed (recent_of before.writer) steps → head_of after.writer ≡ head_of before.writer → after.wanted ≡ before.wanted
       → Adds (under_way_of before.writer) (under_way_of after.writer) (one ∷ others)
       → ((m : ℕ) (all : List (List Messages)) (was now : Compaction) → under_way_of before.writer ≡ Some was → under_way_of after.writer ≡ Some now → IsMarked m all was
       → m ≤ length (updates_in all) → IsMarked m (all ++ (one ∷ others) ∷ []) now)
       → ((head : Head) (bodies : List (List ℕ)) → Holds written synced head (log_of before.writer) bodies → Holds written synced head (log_of after.writer) (logged bodies (one ∷ others)))
       → HasMore text batches zone updates (one ∷ others) after
-  more_some text batches zone updates k one others before after versions steps at holds are made trail head wanted adds marks stored =
+  more_some text batches zone updates k one others before after versions steps at holds are made recent head wanted adds marks stored =
       let octets : List Messages = one ∷ others in
       let old : StoreWriter FileDisk F = before.writer in
       let new : StoreWriter FileDisk F = after.writer in
@@ -95,14 +95,14 @@ module _ {F : Type 0} where
       let here : Holds written synced (head_of new) (log_of new) (map batch_of all) =
       subst (λ (h : Head). Holds written synced h (log_of new) (map batch_of all)) (sym head)
       (subst (λ (bs : List (List ℕ)). Holds written synced (head_of old) (log_of new) bs) (sym bodies) there) in
-      let found = end_more text (head_of old) batches zone updates (trail_of old) k steps at.end (steps_made (last_in (trail_of old)) versions octets steps are made)
+      let found = end_more text (head_of old) batches zone updates (recent_of old) k steps at.end (steps_made (last_in (recent_of old)) versions octets steps are made)
       (subst (λ (us : List Messages). length (batch_of us) < body_limit) (sym are.updates_are) few.0) (omega (arith, few.1, length-map batches batch_of)) in
       let more : List Update = found.0 in
       let m : ℕ = found.1 in
-      let end : IsEndOf text (head_of new) all zone (updates ++ more) (trail_of new) m =
-      subst (λ (h : Head). IsEndOf text h all zone (updates ++ more) (trail_of new) m) (sym head)
-      (subst (λ (t : TrailState). IsEndOf text (head_of old) all zone (updates ++ more) t m) (sym trail)
-      (subst (λ (us : List Messages). IsEndOf text (head_of old) (batches ++ us ∷ []) zone (updates ++ more) (followed (trail_of old) steps) m) are.updates_are found.3)) in
+      let end : IsEndOf text (head_of new) all zone (updates ++ more) (recent_of new) m =
+      subst (λ (h : Head). IsEndOf text h all zone (updates ++ more) (recent_of new) m) (sym head)
+      (subst (λ (t : RecentState). IsEndOf text (head_of old) all zone (updates ++ more) t m) (sym recent)
+      (subst (λ (us : List Messages). IsEndOf text (head_of old) (batches ++ us ∷ []) zone (updates ++ more) (followed (recent_of old) steps) m) are.updates_are found.3)) in
       let long : length updates ≡ length (updates_in batches) = read_long (updates_in batches) updates at.end.store.read in
       record {
         all = all;
@@ -129,7 +129,7 @@ module _ {F : Type 0} where
   -- a store that is tended, and then kept
   pub tended_kept : (before middle after : CompactedState F) → IsTended before middle → IsKept middle after → IsTended before after
   tended_kept before middle after tended kept = record {
-    trail = kept.trail ∙ tended.trail;
+    recent = kept.recent ∙ tended.recent;
     is_present = λ text batches zone updates k at.
         let from = (tended.is_present text batches zone updates k at).0 in (
           record {
@@ -147,12 +147,12 @@ module _ {F : Type 0} where
   -- one that stays as it was
   pub tended_same : (state : CompactedState F) → IsTended state state
   tended_same state = record {
-    trail = refl;
+    recent = refl;
     is_present = λ text batches zone updates k at. (from_here written synced text batches zone updates k state.writer state.wanted at, refl);
   }
 
   pub kept_same : (state : CompactedState F) → IsKept state state
-  kept_same state = record { trail = refl; origin = refl; is_present = λ text batches zone updates k at. at }
+  kept_same state = record { recent = refl; origin = refl; is_present = λ text batches zone updates k at. at }
 
   -- a log that is on the disk and isn't stuck holds its batches
   pub goes_on : (head : Head) (log : Log FileDisk F) (bodies : List (List ℕ)) → IsOnDisk written synced head log bodies → is_stuck log ≡ false → Holds written synced head log bodies
@@ -172,19 +172,19 @@ module _ {F : Type 0} where
 
   -- a journal that replaces another, and one that doesn't
   pub placed_stands : (result : Result Bool PairFault) (old new : StoreWriter FileDisk F) (head : Head) (wanted : Wanted)
-      → IfOk result (λ done. GoesOn head old new done) → IfErr result (λ fault. Stops fault old new) → trail_of new ≡ trail_of old → IsWritten wanted head
+      → IfOk result (λ done. GoesOn head old new done) → IfErr result (λ fault. Stops fault old new) → recent_of new ≡ recent_of old → IsWritten wanted head
       → (text : List ℕ) (batches : List (List Messages)) (zone : List Record) (updates : List Update) (k : ℕ)
       → Stands written synced text batches zone updates k old (Some wanted)
       → StandsFrom written synced zone updates new None × ((head_of new).origin ≡ (head_of old).origin)
-  placed_stands (Ok true) old new head wanted goes stops trail is text batches zone updates k is_present =
-      stands_replaced written synced text is.1.0 batches zone updates k old new wanted head is.0 goes.0 is_present is.1.1 goes.1 goes.2 goes.3 goes.4 trail
-  placed_stands (Ok false) old new head wanted goes stops trail is text batches zone updates k is_present =
+  placed_stands (Ok true) old new head wanted goes stops recent is text batches zone updates k is_present =
+      stands_replaced written synced text is.1.0 batches zone updates k old new wanted head is.0 goes.0 is_present is.1.1 goes.1 goes.2 goes.3 goes.4 recent
+  placed_stands (Ok false) old new head wanted goes stops recent is text batches zone updates k is_present =
       unplaced old new wanted goes.1 text batches zone updates k is_present
-  placed_stands (Err (Before fault)) old new head wanted goes stops trail is text batches zone updates k is_present =
+  placed_stands (Err (Before fault)) old new head wanted goes stops recent is text batches zone updates k is_present =
       unplaced old new wanted stops text batches zone updates k is_present
-  placed_stands (Err (Unknown fault)) old new head wanted goes stops trail is text batches zone updates k is_present = (
+  placed_stands (Err (Unknown fault)) old new head wanted goes stops recent is text batches zone updates k is_present = (
     from_here written synced text batches zone updates k new None
-        (stands_stopped written synced text batches zone updates k old new (Some wanted) is_present trail stops.2 (λ h bodies on_disk. inr (stops.1 h bodies on_disk))),
+        (stands_stopped written synced text batches zone updates k old new (Some wanted) is_present recent stops.2 (λ h bodies on_disk. inr (stops.1 h bodies on_disk))),
     ap (λ (h : Head). h.origin) stops.2,
   )
 
@@ -219,13 +219,13 @@ module _ {F : Type 0} where
   -- a compaction that is begun, or isn't
   pub begun_stands : (before after : StoreWriter FileDisk F) (old new : Option Wanted) (next : NextText) (last : ℕ)
       → (new ≡ Some (wanted_of next (head_of after))) ⊎ (new ≡ None)
-      → trail_of after ≡ trail_of before → head_of after ≡ head_of before → log_of after ≡ log_of before → Begins (trail_of before) last next (under_way_of after)
+      → recent_of after ≡ recent_of before → head_of after ≡ head_of before → log_of after ≡ log_of before → Begins (recent_of before) last next (under_way_of after)
       → (text : List ℕ) (batches : List (List Messages)) (zone : List Record) (updates : List Update) (k : ℕ)
-      → (IsEndOf text (head_of before) batches zone updates (trail_of before) k → IfSome (under_way_of after) (IsMarked k batches))
+      → (IsEndOf text (head_of before) batches zone updates (recent_of before) k → IfSome (under_way_of after) (IsMarked k batches))
       → Stands written synced text batches zone updates k before old → Stands written synced text batches zone updates k after new
-  begun_stands before after old new next last which trail head log begins text batches zone updates k marked is_present =
+  begun_stands before after old new next last which recent head log begins text batches zone updates k marked is_present =
       let here : Stands written synced text batches zone updates k after (Some (wanted_of next (head_of after))) =
-      stands_begun written synced text batches zone updates k last before after old next is_present trail head log begins (marked is_present.end) in
+      stands_begun written synced text batches zone updates k last before after old next is_present recent head log begins (marked is_present.end) in
       elim which [
         | inl same ↦ subst (λ (w : Option Wanted). Stands written synced text batches zone updates k after w) (sym same) here
         | inr none ↦ subst (λ (w : Option Wanted). Stands written synced text batches zone updates k after w) (sym none)
@@ -234,23 +234,23 @@ module _ {F : Type 0} where
 
   -- a store is tended by what becomes of its parts
   pub tended_parts : (before : CompactedState F) (old new : StoreWriter FileDisk F) (was now : Option Wanted) → record { writer = old; wanted = was } ≡ before
-      → trail_of new ≡ trail_of old
+      → recent_of new ≡ recent_of old
       → ((text : List ℕ) (batches : List (List Messages)) (zone : List Record) (updates : List Update) (k : ℕ) → Stands written synced text batches zone updates k old was
       → StandsFrom written synced zone updates new now × ((head_of new).origin ≡ (head_of old).origin))
       → IsTended before (record { writer = new; wanted = now })
-  tended_parts before old new was now is trail is_present =
-      subst (λ (s : CompactedState F). IsTended s (record { writer = new; wanted = now })) is (record { trail = trail; is_present = is_present })
+  tended_parts before old new was now is recent is_present =
+      subst (λ (s : CompactedState F). IsTended s (record { writer = new; wanted = now })) is (record { recent = recent; is_present = is_present })
 
   -- where there is no update nothing is stored
   pub stored_none : (state : CompactedState F) (versions : List Version) (octets : List Messages) → length octets ≡ 0 → IsStored state state versions octets
   stored_none state [] [] none = record {
     origin = refl;
-    last = λ trail short made. (trail, refl);
+    last = λ recent short made. (recent, refl);
     is_present = λ short made text batches zone updates k at. more_none text batches zone updates k [] state refl at;
   }
   stored_none state (version ∷ versions) [] none = record {
     origin = refl;
-    last = λ trail short made. absurd made;
+    last = λ recent short made. absurd made;
     is_present = λ short made. absurd made;
   }
   stored_none state versions (one ∷ octets) none = absurd (omega (arith, none))
@@ -264,7 +264,7 @@ module _ {F : Type 0} where
   -- a batch that is appended
   stored_some : (updates : List VersionUpdate) (old new : StoreWriter FileDisk F) (wanted : Option Wanted) → is_stuck (log_of old) ≡ false → 0 < length updates
       → ((head : Head) (bodies : List (List ℕ)) → Holds written synced head (log_of old) bodies → Holds written synced head (log_of new) (logged bodies (updates_of updates)))
-      → (steps : List VersionUpdate) × AreSteps steps (versions_in updates) (updates_of updates) × (trail_of new ≡ followed (trail_of old) steps)
+      → (steps : List VersionUpdate) × AreSteps steps (versions_in updates) (updates_of updates) × (recent_of new ≡ followed (recent_of old) steps)
       → Adds (under_way_of old) (under_way_of new) (updates_of updates)
       → (0 < length updates → (k : ℕ) (batches : List (List Messages)) (was now : Compaction)
       → under_way_of old ≡ Some was → under_way_of new ≡ Some now → IsMarked k batches was → k ≤ length (updates_in batches) → IsMarked k (batches ++ updates_of updates ∷ []) now)
@@ -273,7 +273,7 @@ module _ {F : Type 0} where
   stored_some [] old new wanted on some stored found way marks head = absurd (omega (arith, some))
   stored_some (one ∷ others) old new wanted on some stored found way marks head = record {
     origin = ap (λ (h : Head). h.origin) head;
-    last = λ is short made. last_follows (trail_of old) (trail_of new) (versions_in (one ∷ others)) (updates_of (one ∷ others)) found.0 is found.1 found.2 made;
+    last = λ is short made. last_follows (recent_of old) (recent_of new) (versions_in (one ∷ others)) (updates_of (one ∷ others)) found.0 is found.1 found.2 made;
     is_present = λ short made text batches zone updates k at.
         more_some text batches zone updates k one.messages (updates_of others) (record { writer = old; wanted = wanted }) (record { writer = new; wanted = wanted })
         (versions_in (one ∷ others)) found.0 at (goes_on (head_of old) (log_of old) (map batch_of batches) at.log on) found.1 made found.2 head refl way
@@ -284,7 +284,7 @@ module _ {F : Type 0} where
   pub appended : (updates : List VersionUpdate) (before : CompactedState F) (old new : StoreWriter FileDisk F) (wanted : Option Wanted)
       → record { writer = old; wanted = wanted } ≡ before → is_stuck (log_of old) ≡ false → 0 < length updates
       → ((head : Head) (bodies : List (List ℕ)) → Holds written synced head (log_of old) bodies → Holds written synced head (log_of new) (logged bodies (updates_of updates)))
-      → (steps : List VersionUpdate) × AreSteps steps (versions_in updates) (updates_of updates) × (trail_of new ≡ followed (trail_of old) steps)
+      → (steps : List VersionUpdate) × AreSteps steps (versions_in updates) (updates_of updates) × (recent_of new ≡ followed (recent_of old) steps)
       → Adds (under_way_of old) (under_way_of new) (updates_of updates)
       → (0 < length updates → (k : ℕ) (batches : List (List Messages)) (was now : Compaction)
       → under_way_of old ≡ Some was → under_way_of new ≡ Some now → IsMarked k batches was → k ≤ length (updates_in batches) → IsMarked k (batches ++ updates_of updates ∷ []) now)
@@ -298,14 +298,14 @@ module _ {F : Type 0} where
   pub not_appended : (before : CompactedState F) (old new : StoreWriter FileDisk F) (wanted : Option Wanted)
       → record { writer = old; wanted = wanted } ≡ before → is_stuck (log_of old) ≡ false
       → ((head : Head) (bodies : List (List ℕ)) → Holds written synced head (log_of old) bodies → Holds written synced head (log_of new) bodies ⊎ IsStuck synced head (log_of new) bodies)
-      → trail_of new ≡ trail_of old → under_way_of new ≡ under_way_of old → head_of new ≡ head_of old
+      → recent_of new ≡ recent_of old → under_way_of new ≡ under_way_of old → head_of new ≡ head_of old
       → IsKept before (record { writer = new; wanted = wanted })
-  not_appended before old new wanted is on kept trail way head =
+  not_appended before old new wanted is on kept recent way head =
       subst (λ (s : CompactedState F). IsKept s (record { writer = new; wanted = wanted })) is (record {
-        trail = trail;
+        recent = recent;
         origin = ap (λ (h : Head). h.origin) head;
         is_present = λ text batches zone updates k at.
-            stands_still written synced text batches zone updates k old new wanted at trail head way (still_there (log_of old) (log_of new) on kept);
+            stands_still written synced text batches zone updates k old new wanted at recent head way (still_there (log_of old) (log_of new) on kept);
       })
 
 -- what follows from what a result says, where it is Ok, and where it is not

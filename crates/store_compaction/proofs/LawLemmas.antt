@@ -18,7 +18,7 @@ use Rattle.store_recovery.specs.Replay.{AreRead}
 use Rattle.store_recovery.specs.Start.{IsStarted}
 use Rattle.store_recovery.proofs.StoreLemmas.{synced_taken}
 use Rattle.store_compaction.specs.RecentUpdates.{last_in}
-use Rattle.store_compaction.specs.Writer.{log_of, trail_of, head_of}
+use Rattle.store_compaction.specs.Writer.{log_of, recent_of, head_of}
 use Rattle.store_compaction.proofs.EndLemmas.{last_is, compaction_started}
 use Rattle.store_compaction.specs.Stands.{StandsFrom}
 use Rattle.store_compaction.specs.Kept.{CompactedState, IsAt}
@@ -34,7 +34,7 @@ module _ {F : Type 0} where
 
   pub crash_has_last : (text : List ℕ) (batches : List (List Messages)) (zone : List Record) (updates : List Update) (k : ℕ) (state : CompactedState F) (left : List ℕ) (start : Recovery)
       → IsAt text batches zone updates k state → IsStarted text (synced (disk_of (log_of state.writer)) ++ left) start
-      → ((last_in (trail_of state.writer)).zone ≡ replay zone updates) × (start.head ≡ head_of state.writer)
+      → ((last_in (recent_of state.writer)).zone ≡ replay zone updates) × (start.head ≡ head_of state.writer)
       × ((more : List Update) × EachChanges zone (updates ++ more) × (start.newest.last.zone ≡ replay zone (updates ++ more)) × (start.newest.last.number ≡ length (updates ++ more)))
   crash_has_last text batches zone updates k state left start at is =
       let head : Head = head_of state.writer in
@@ -42,7 +42,7 @@ module _ {F : Type 0} where
       subst (λ (o : List ℕ). IsStarted text (o ++ left) start) (disk_is head (log_of state.writer) (map batch_of batches) at.log) is in
       let store = at.end.store in
       let found = synced_recovered text left head start.head batches here.messages start.number start.end here.torn store.is_head store.fit store.short here.recovered in (
-        last_is text head batches zone updates (trail_of state.writer) k at.end,
+        last_is text head batches zone updates (recent_of state.writer) k at.end,
         found.1,
         synced_taken text left head batches zone updates start store here,
       )

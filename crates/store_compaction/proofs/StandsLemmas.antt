@@ -16,9 +16,9 @@ use Rattle.store_compaction.specs.declared.marked.Compaction.{Compaction}
 use Rattle.store_compaction.specs.declared.next.NextText.{NextText}
 use Rattle.store_compaction.specs.declared.writer.StoreWriter.{StoreWriter}
 use Rattle.store_compaction.specs.End.{IsEndOf}
-use Rattle.store_compaction.specs.RecentUpdates.{TrailState}
+use Rattle.store_compaction.specs.RecentUpdates.{RecentState}
 use Rattle.store_compaction.specs.Marked.{bodies_of, number_of, IsMarked}
-use Rattle.store_compaction.specs.Writer.{log_of, trail_of, head_of, under_way_of, Begins}
+use Rattle.store_compaction.specs.Writer.{log_of, recent_of, head_of, under_way_of, Begins}
 use Rattle.store_compaction.proofs.EndLemmas.{end_left}
 use Rattle.store_compaction.specs.TextWriter.{Wanted, wanted_of}
 use Rattle.store_compaction.specs.Stands.{IsNext, Stands, StandsFrom}
@@ -38,10 +38,10 @@ pub none_some : {X : Type 0} (one : X) → None ≡ Some one → ⊥
 none_some one is = cc
 
 -- the end of a store, by equal parts
-end_same : (text : List ℕ) (head other : Head) (batches : List (List Messages)) (zone : List Record) (updates : List Update) (trail same : TrailState) (k : ℕ)
-    → other ≡ head → same ≡ trail → IsEndOf text head batches zone updates trail k → IsEndOf text other batches zone updates same k
-end_same text head other batches zone updates trail same k head_is trail_is end =
-    subst (λ (h : Head). IsEndOf text h batches zone updates same k) (sym head_is) (subst (λ (t : TrailState). IsEndOf text head batches zone updates t k) (sym trail_is) end)
+end_same : (text : List ℕ) (head other : Head) (batches : List (List Messages)) (zone : List Record) (updates : List Update) (recent same : RecentState) (k : ℕ)
+    → other ≡ head → same ≡ recent → IsEndOf text head batches zone updates recent k → IsEndOf text other batches zone updates same k
+end_same text head other batches zone updates recent same k head_is recent_is end =
+    subst (λ (h : Head). IsEndOf text h batches zone updates same k) (sym head_is) (subst (λ (t : RecentState). IsEndOf text head batches zone updates t k) (sym recent_is) end)
 
 module _ {D F : Type 0} (written synced : D → List ℕ) where
   -- a log on the disk, by equal parts
@@ -67,13 +67,13 @@ module _ {D F : Type 0} (written synced : D → List ℕ) where
     next = λ compaction other way is number. absurd (none_some other is);
   }
 
-  -- a writer with the same trail and head, whose log is on the disk, and no text is wanted
+  -- a writer with the same recent updates and head, whose log is on the disk, and no text is wanted
   pub stands_stopped : (text : List ℕ) (batches : List (List Messages)) (zone : List Record) (updates : List Update) (k : ℕ) (old new : StoreWriter D F) (wanted : Option Wanted)
-      → Stands written synced text batches zone updates k old wanted → trail_of new ≡ trail_of old → head_of new ≡ head_of old
+      → Stands written synced text batches zone updates k old wanted → recent_of new ≡ recent_of old → head_of new ≡ head_of old
       → ((head : Head) (bodies : List (List ℕ)) → IsOnDisk head (log_of old) bodies → IsOnDisk head (log_of new) bodies)
       → Stands written synced text batches zone updates k new None
-  stands_stopped text batches zone updates k old new wanted is_present trail head still = record {
-    end = end_same text (head_of old) (head_of new) batches zone updates (trail_of old) (trail_of new) k head trail is_present.end;
+  stands_stopped text batches zone updates k old new wanted is_present recent head still = record {
+    end = end_same text (head_of old) (head_of new) batches zone updates (recent_of old) (recent_of new) k head recent is_present.end;
     log = disk_same (head_of old) (head_of new) (log_of new) (log_of new) (map batch_of batches) head refl (still (head_of old) (map batch_of batches) is_present.log);
     origin = λ other is. absurd (none_some other is);
     next = λ compaction other way is number. absurd (none_some other is);
@@ -81,23 +81,23 @@ module _ {D F : Type 0} (written synced : D → List ℕ) where
 
   -- the same of the same writer, of which nothing but its log may be another one
   pub stands_still : (text : List ℕ) (batches : List (List Messages)) (zone : List Record) (updates : List Update) (k : ℕ) (old new : StoreWriter D F) (wanted : Option Wanted)
-      → Stands written synced text batches zone updates k old wanted → trail_of new ≡ trail_of old → head_of new ≡ head_of old → under_way_of new ≡ under_way_of old
+      → Stands written synced text batches zone updates k old wanted → recent_of new ≡ recent_of old → head_of new ≡ head_of old → under_way_of new ≡ under_way_of old
       → ((head : Head) (bodies : List (List ℕ)) → IsOnDisk head (log_of old) bodies → IsOnDisk head (log_of new) bodies)
       → Stands written synced text batches zone updates k new wanted
-  stands_still text batches zone updates k old new wanted is_present trail head way still = record {
-    end = end_same text (head_of old) (head_of new) batches zone updates (trail_of old) (trail_of new) k head trail is_present.end;
+  stands_still text batches zone updates k old new wanted is_present recent head way still = record {
+    end = end_same text (head_of old) (head_of new) batches zone updates (recent_of old) (recent_of new) k head recent is_present.end;
     log = disk_same (head_of old) (head_of new) (log_of new) (log_of new) (map batch_of batches) head refl (still (head_of old) (map batch_of batches) is_present.log);
     origin = λ other is. is_present.origin other is ∙ ap (λ (h : Head). h.origin) (sym head);
     next = λ compaction other under is. is_present.next compaction other (sym way ∙ under) is;
   }
 
-  -- a compaction that is begun: its text is that of the trail's oldest version
+  -- a compaction that is begun: its text is that of the oldest recent version
   pub stands_begun : (text : List ℕ) (batches : List (List Messages)) (zone : List Record) (updates : List Update) (k last : ℕ) (old new : StoreWriter D F) (wanted : Option Wanted) (next : NextText)
-      → Stands written synced text batches zone updates k old wanted → trail_of new ≡ trail_of old → head_of new ≡ head_of old → log_of new ≡ log_of old
-      → Begins (trail_of old) last next (under_way_of new) → IfSome (under_way_of new) (IsMarked k batches)
+      → Stands written synced text batches zone updates k old wanted → recent_of new ≡ recent_of old → head_of new ≡ head_of old → log_of new ≡ log_of old
+      → Begins (recent_of old) last next (under_way_of new) → IfSome (under_way_of new) (IsMarked k batches)
       → Stands written synced text batches zone updates k new (Some (wanted_of next (head_of new)))
-  stands_begun text batches zone updates k last old new wanted next is_present trail head log begins marked = record {
-    end = end_same text (head_of old) (head_of new) batches zone updates (trail_of old) (trail_of new) k head trail is_present.end;
+  stands_begun text batches zone updates k last old new wanted next is_present recent head log begins marked = record {
+    end = end_same text (head_of old) (head_of new) batches zone updates (recent_of old) (recent_of new) k head recent is_present.end;
     log = disk_same (head_of old) (head_of new) (log_of old) (log_of new) (map batch_of batches) head log is_present.log;
     origin = λ other is. ap (λ (w : Wanted). w.origin) (sym (some_is (wanted_of next (head_of new)) other is));
     next = λ compaction other under is number. record {
@@ -113,18 +113,18 @@ module _ {D F : Type 0} (written synced : D → List ℕ) where
       (head : Head) (random : List ℕ) (compaction : Compaction)
       → Stands written synced text batches zone updates k old (Some wanted) → IsCreated wanted.next.version.zone wanted.next.number random wanted.origin written_text head
       → under_way_of old ≡ Some compaction → number_of compaction ≡ head.number → Holds written synced head (log_of new) (bodies_of compaction)
-      → head_of new ≡ head → trail_of new ≡ trail_of old
+      → head_of new ≡ head → recent_of new ≡ recent_of old
       → StandsFrom written synced zone updates new None × ((head_of new).origin ≡ (head_of old).origin)
-  stands_replaced text written_text batches zone updates k old new wanted head random compaction is_present begun way number holds head_is trail =
+  stands_replaced text written_text batches zone updates k old new wanted head random compaction is_present begun way number holds head_is recent =
       let next : IsNext batches zone updates k compaction wanted = is_present.next compaction wanted way refl (number ∙ begun.numbered) in
       let first : ℕ = next.first in
       let rest : List (List Messages) = next.marked.rest in
       let here : IsStore written_text head [] (replay zone (take first updates)) [] = subst (λ (z : List Record). IsStore written_text head [] z []) next.version begun.store in
       let parts : k ≡ first + (k - first) = omega (arith, next.older) in
-      let end : IsEndOf text (head_of old) batches zone updates (trail_of old) (first + (k - first)) =
-      subst (λ (m : ℕ). IsEndOf text (head_of old) batches zone updates (trail_of old) m) parts is_present.end in
-      let left : IsEndOf written_text head rest (replay zone (take first updates)) (drop first updates) (trail_of old) (k - first) =
-      end_left text written_text (head_of old) head batches rest zone updates (trail_of old) first (k - first) end here next.marked.behind in
+      let end : IsEndOf text (head_of old) batches zone updates (recent_of old) (first + (k - first)) =
+      subst (λ (m : ℕ). IsEndOf text (head_of old) batches zone updates (recent_of old) m) parts is_present.end in
+      let left : IsEndOf written_text head rest (replay zone (take first updates)) (drop first updates) (recent_of old) (k - first) =
+      end_left text written_text (head_of old) head batches rest zone updates (recent_of old) first (k - first) end here next.marked.behind in
       let bodies : Holds written synced head (log_of new) (map batch_of rest) = subst (λ (bs : List (List ℕ)). Holds written synced head (log_of new) bs) next.marked.bodies holds in (
         record {
           n = first;
@@ -133,7 +133,7 @@ module _ {D F : Type 0} (written synced : D → List ℕ) where
           batches = rest;
           k = k - first;
           is_present = record {
-            end = end_same written_text head (head_of new) rest (replay zone (take first updates)) (drop first updates) (trail_of old) (trail_of new) (k - first) head_is trail left;
+            end = end_same written_text head (head_of new) rest (replay zone (take first updates)) (drop first updates) (recent_of old) (recent_of new) (k - first) head_is recent left;
             log = disk_same head (head_of new) (log_of new) (log_of new) (map batch_of rest) head_is refl (inl bodies);
             origin = λ other is. absurd (none_some other is);
             next = λ other_compaction other under is same. absurd (none_some other is);

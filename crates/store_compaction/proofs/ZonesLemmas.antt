@@ -1,4 +1,4 @@
--- The zones that updates leave, one after another, and which of them a start and a trail have.
+-- The zones that updates leave, one after another, and which of them a start and recent updates have.
 use Rattle.std.proofs.Common.{◌≡◌, ℕ, zero, suc, ◌+◌, ◌-◌, ◌≤◌, List, [], ◌∷◌, ◌++◌, length, take, drop, min, Result, Ok, unwrap_or, refl, sym, ap, ◌∙◌, subst, append_assoc, length-append, arith}
 use Rattle.std.proofs.lemmas.List.{map-append, length-map, length-drop, drop-drop}
 use Rattle.std.proofs.Math.Seq.{drop-append_seam}
@@ -25,7 +25,7 @@ use Rattle.store_recovery.proofs.HeldLemmas.{begun_newest, held_newest, held_kee
 use Rattle.store_recovery.proofs.ReadLemmas.{read_one, read_once, read_long}
 use Rattle.store_recovery.proofs.ReplayLemmas.{replayed_number}
 use Rattle.update_batches.specs.declared.version_update.VersionUpdate.{VersionUpdate}
-use Rattle.store_compaction.specs.RecentUpdates.{TrailState}
+use Rattle.store_compaction.specs.RecentUpdates.{RecentState}
 use Rattle.update_batches.specs.Batch.{versions_in, updates_of}
 use Rattle.store_compaction.specs.End.{IsEndOf}
 use Rattle.store_compaction.proofs.MadeLemmas.{read_behind}
@@ -104,11 +104,11 @@ last_of_last values kept b k m is few long =
 one_zone : (read : Result (List Record) FileFault) (zone other : List Record) → read ≡ Ok zone → read ≡ Ok other → zone ≡ other
 one_zone read zone other one two = cc
 
--- a start of a store has the zones of the trail that is its end
-pub trail_started : (text : List ℕ) (head : Head) (batches : List (List Messages)) (zone : List Record) (updates : List Update) (trail : TrailState) (k : ℕ) (start : Recovery)
-    → IsEndOf text head batches zone updates trail k → length trail.steps ≤ KEPT → IsStarted text (journal_of head batches) start
-    → newest (length trail.steps + 1) (zones_of (start.newest.older.items ++ start.newest.last ∷ [])) ≡ zones_of (trail.oldest ∷ versions_in trail.steps)
-trail_started text head batches zone updates trail k start end few is =
+-- a start of a store has the zones of the recent updates that are its end
+pub recent_started : (text : List ℕ) (head : Head) (batches : List (List Messages)) (zone : List Record) (updates : List Update) (recent : RecentState) (k : ℕ) (start : Recovery)
+    → IsEndOf text head batches zone updates recent k → length recent.steps ≤ KEPT → IsStarted text (journal_of head batches) start
+    → newest (length recent.steps + 1) (zones_of (start.newest.older.items ++ start.newest.last ∷ [])) ≡ zones_of (recent.oldest ∷ versions_in recent.steps)
+recent_started text head batches zone updates recent k start end few is =
     let store : IsStore text head batches zone updates = end.store in
     let messages : List Messages = updates_in batches in
     let found = written_recovered text head start.head batches is.messages start.number start.end is.torn store.is_head store.fit store.short is.recovered in
@@ -121,12 +121,12 @@ trail_started text head batches zone updates trail k start end few is =
     replayed_zones is.zone is.messages start.newest is.replayed
     ∙ (ap (λ (us : List Update). drop (length us - min KEPT (length us)) (zones_from is.zone us)) others ∙ ap (λ (z : List Record). drop b (zones_from z updates)) zones) in
     let long : length updates ≡ length messages = read_long messages updates store.read in
-    let steps : length trail.steps ≡ length messages - k =
-    sym (length-map trail.steps (λ (s : VersionUpdate). s.messages)) ∙ (ap length end.rest ∙ length-drop k messages) in
-    let read : AreRead (updates_of trail.steps) (drop k updates) =
+    let steps : length recent.steps ≡ length messages - k =
+    sym (length-map recent.steps (λ (s : VersionUpdate). s.messages)) ∙ (ap length end.rest ∙ length-drop k messages) in
+    let read : AreRead (updates_of recent.steps) (drop k updates) =
     subst (λ (ms : List Messages). AreRead ms (drop k updates)) (sym end.rest) (read_behind k messages updates store.read) in
-    let has : zones_of (trail.oldest ∷ versions_in trail.steps) ≡ drop k all =
-    made_zones trail.oldest (versions_in trail.steps) (updates_of trail.steps) (drop k updates) end.made read
+    let has : zones_of (recent.oldest ∷ versions_in recent.steps) ≡ drop k all =
+    made_zones recent.oldest (versions_in recent.steps) (updates_of recent.steps) (drop k updates) end.made read
     ∙ (ap (λ (z : List Record). zones_from z (drop k updates)) end.oldest ∙ zones_behind k zone updates end.within) in
-    last_of_last all (zones_of (start.newest.older.items ++ start.newest.last ∷ [])) b k (length trail.steps + 1) kept (omega (arith, few, steps, long, end.within))
+    last_of_last all (zones_of (start.newest.older.items ++ start.newest.last ∷ [])) b k (length recent.steps + 1) kept (omega (arith, few, steps, long, end.within))
     (omega (arith, zones_long zone updates, steps, long, end.within)) ∙ sym has

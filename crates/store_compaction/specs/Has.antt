@@ -9,7 +9,7 @@ use Rattle.dns_engine.specs.Replayed.{EachChanges}
 use Rattle.update_batches.specs.Engine.{IsLast}
 use Rattle.store_recovery.specs.Replay.{AreRead}
 use Rattle.store_compaction.specs.RecentUpdates.{last_in}
-use Rattle.store_compaction.specs.Writer.{trail_of}
+use Rattle.store_compaction.specs.Writer.{recent_of}
 use Rattle.store_compaction.specs.Kept.{CompactedState, IsAt}
 
 -- a store has these updates after a zone, the first of them in its zone text and the others in its journal on disk. Each changes the zone that the previous ones leave, and the
@@ -23,4 +23,4 @@ pub record HasUpdates {F : Type 0} (zone : List Record) (store : CompactedState 
   pub batches : List (List Messages)
   pub k : ℕ
   pub is_present : IsAt text batches (replay zone in_text) in_journal k store
-  pub last : IsLast published (last_in (trail_of store.writer))
+  pub last : IsLast published (last_in (recent_of store.writer))

@@ -11,8 +11,8 @@ use Rattle.store_files.specs.File.{written, synced}
 use Rattle.update_batches.specs.Batch.{newest_of}
 use Rattle.update_batches.specs.Journal.{AreMadeBy}
 use Rattle.store_compaction.specs.declared.writer.StoreWriter.{StoreWriter}
-use Rattle.store_compaction.specs.RecentUpdates.{IsTrail, last_in}
-use Rattle.store_compaction.specs.Writer.{log_of, trail_of, head_of}
+use Rattle.store_compaction.specs.RecentUpdates.{AreRecent, last_in}
+use Rattle.store_compaction.specs.Writer.{log_of, recent_of, head_of}
 use Rattle.store_compaction.specs.TextWriter.{Wanted}
 use Rattle.store_compaction.specs.Stands.{Stands, StandsFrom}
 
@@ -28,13 +28,13 @@ module _ {F : Type 0} where
 
   -- between two batches the store stays the same, or one of the same versions replaces it
   pub record IsTended (before after : CompactedState F) : Type 0 where
-    pub trail : trail_of after.writer ≡ trail_of before.writer
+    pub recent : recent_of after.writer ≡ recent_of before.writer
     pub is_present : (text : List ℕ) (batches : List (List Messages)) (zone : List Record) (updates : List Update) (k : ℕ) → IsAt text batches zone updates k before
         → StandsFrom written synced zone updates after.writer after.wanted × ((head_of after.writer).origin ≡ (head_of before.writer).origin)
 
   -- the store stays the same
   pub record IsKept (before after : CompactedState F) : Type 0 where
-    pub trail : trail_of after.writer ≡ trail_of before.writer
+    pub recent : recent_of after.writer ≡ recent_of before.writer
     pub origin : (head_of after.writer).origin ≡ (head_of before.writer).origin
     pub is_present : (text : List ℕ) (batches : List (List Messages)) (zone : List Record) (updates : List Update) (k : ℕ) → IsAt text batches zone updates k before
         → IsAt text batches zone updates k after
@@ -51,8 +51,8 @@ module _ {F : Type 0} where
   -- the updates of these versions, each made from the previous one, come after those of the store, as one batch on disk
   pub record IsStored (before after : CompactedState F) (versions : List Version) (octets : List Messages) : Type 0 where
     pub origin : (head_of after.writer).origin ≡ (head_of before.writer).origin
-    pub last : IsTrail (trail_of before.writer) → All IsRequest octets → AreMadeBy (last_in (trail_of before.writer)) versions octets
-        → IsTrail (trail_of after.writer) × (last_in (trail_of after.writer) ≡ newest_of (last_in (trail_of before.writer)) versions)
-    pub is_present : All IsRequest octets → AreMadeBy (last_in (trail_of before.writer)) versions octets
+    pub last : AreRecent (recent_of before.writer) → All IsRequest octets → AreMadeBy (last_in (recent_of before.writer)) versions octets
+        → AreRecent (recent_of after.writer) × (last_in (recent_of after.writer) ≡ newest_of (last_in (recent_of before.writer)) versions)
+    pub is_present : All IsRequest octets → AreMadeBy (last_in (recent_of before.writer)) versions octets
         → (text : List ℕ) (batches : List (List Messages)) (zone : List Record) (updates : List Update) (k : ℕ) → IsAt text batches zone updates k before
         → HasMore text batches zone updates octets after

@@ -9,7 +9,7 @@ use Rattle.store_compaction.specs.declared.marked.Compaction.{Compaction}
 use Rattle.store_compaction.specs.declared.writer.StoreWriter.{StoreWriter}
 use Rattle.store_compaction.specs.End.{IsEndOf}
 use Rattle.store_compaction.specs.Marked.{number_of, IsMarked}
-use Rattle.store_compaction.specs.Writer.{log_of, trail_of, head_of, under_way_of}
+use Rattle.store_compaction.specs.Writer.{log_of, recent_of, head_of, under_way_of}
 use Rattle.store_compaction.specs.TextWriter.{Wanted}
 
 -- the requested text is that of the version after the first updates of a store, at most the first k, and the compaction has the batches after it
@@ -24,7 +24,7 @@ module _ {D F : Type 0} (written synced : D → List ℕ) where
   -- batches, and these are on disk. The writer's recent updates are the end of that store. The data kept by the current compaction belongs to the requested text, if that has its
   -- number
   pub record Stands (text : List ℕ) (batches : List (List Messages)) (zone : List Record) (updates : List Update) (k : ℕ) (writer : StoreWriter D F) (wanted : Option Wanted) : Type 0 where
-    pub end : IsEndOf text (head_of writer) batches zone updates (trail_of writer) k
+    pub end : IsEndOf text (head_of writer) batches zone updates (recent_of writer) k
     pub log : Holds written synced (head_of writer) (log_of writer) (map batch_of batches) ⊎ IsStuck synced (head_of writer) (log_of writer) (map batch_of batches)
     pub origin : (other : Wanted) → wanted ≡ Some other → other.origin ≡ (head_of writer).origin
     pub next : (compaction : Compaction) (other : Wanted) → under_way_of writer ≡ Some compaction → wanted ≡ Some other → number_of compaction ≡ other.next.number

@@ -10,7 +10,7 @@ use Rattle.store_compaction.specs.declared.next.NextJournal.{NextJournal}
 use Rattle.store_compaction.specs.declared.next.NextText.{NextText}
 use Rattle.update_batches.specs.declared.version_update.VersionUpdate.{VersionUpdate}
 use Rattle.store_compaction.specs.declared.writer.StoreWriter.{StoreWriter}
-use Rattle.store_compaction.specs.RecentUpdates.{TrailState}
+use Rattle.store_compaction.specs.RecentUpdates.{RecentState}
 use Rattle.update_batches.specs.Batch.{versions_in, updates_of}
 use Rattle.store_compaction.specs.Marked.{bodies_of, number_of, IsNextJournal}
 
@@ -19,8 +19,8 @@ module _ {D F : Type 0} where
   abbrev pub log_of : StoreWriter D F → Log D F
   log_of writer = writer.log
 
-  abbrev pub trail_of : StoreWriter D F → TrailState
-  trail_of writer = writer.trail
+  abbrev pub recent_of : StoreWriter D F → RecentState
+  recent_of writer = writer.recent
 
   abbrev pub head_of : StoreWriter D F → Head
   head_of writer = writer.texts.head
@@ -43,15 +43,15 @@ Adds None (Some now) updates = ⊥
 Adds (Some before) (Some now) updates = (number_of now ≡ number_of before) × (bodies_of now ≡ logged (bodies_of before) updates)
 
 -- a compaction is under way for the text with a number, and has the recent updates, each as a batch of its own
-abbrev pub Keeps : TrailState → ℕ → Option Compaction → Type 0
-Keeps trail number None = ⊥
-Keeps trail number (Some compaction) = (number_of compaction ≡ number) × (bodies_of compaction ≡ map (λ messages. batch_of (messages ∷ [])) (updates_of trail.steps))
+abbrev pub Keeps : RecentState → ℕ → Option Compaction → Type 0
+Keeps recent number None = ⊥
+Keeps recent number (Some compaction) = (number_of compaction ≡ number) × (bodies_of compaction ≡ map (λ messages. batch_of (messages ∷ [])) (updates_of recent.steps))
 
 -- a compaction is started: its text is that of the oldest recent version, with the number after the greatest given so far
-pub record Begins (trail : TrailState) (last : ℕ) (next : NextText) (now : Option Compaction) : Type 0 where
-  pub version : next.version ≡ trail.oldest
+pub record Begins (recent : RecentState) (last : ℕ) (next : NextText) (now : Option Compaction) : Type 0 where
+  pub version : next.version ≡ recent.oldest
   pub number : next.number ≡ last + 1
-  pub kept : Keeps trail next.number now
+  pub kept : Keeps recent next.number now
 
 -- no compaction is under way for the text with a number
 abbrev pub IsOver : Option Compaction → ℕ → Type 0

@@ -14,7 +14,7 @@ ghost use Rattle.store_recovery.specs.declared.start.Recovery.{Recovery};
 ghost use Rattle.store_recovery.specs.Replay.{AreRead};
 ghost use Rattle.store_recovery.specs.Start.{IsStarted};
 ghost use Rattle.store_compaction.specs.RecentUpdates.{last_in};
-ghost use Rattle.store_compaction.specs.Writer.{log_of, trail_of, head_of};
+ghost use Rattle.store_compaction.specs.Writer.{log_of, recent_of, head_of};
 ghost use Rattle.store_compaction.specs.Stands.{StandsFrom};
 ghost use Rattle.store_compaction.specs.Kept.{CompactedState, IsAt};
 ghost use Rattle.store_compaction.specs.Has.{HasUpdates};
@@ -24,7 +24,7 @@ ghost use Rattle.store_compaction.specs.Has.{HasUpdates};
 pub fn tended_stores_have_the_same_start()
     ensures crash { (text : List ℕ) (batches : List (List Messages)) (zone : List Record) (updates : List Update) (k : ℕ) (state : CompactedState IoError) (left : List ℕ) (start : Recovery)
         → IsAt text batches zone updates k state → IsStarted text (synced (disk_of (log_of state.writer)) ++ left) start
-        → ((last_in (trail_of state.writer)).zone ≡ replay zone updates) × (start.head ≡ head_of state.writer)
+        → ((last_in (recent_of state.writer)).zone ≡ replay zone updates) × (start.head ≡ head_of state.writer)
         × ((more : List Update) × EachChanges zone (updates ++ more) × (start.newest.last.zone ≡ replay zone (updates ++ more)) × (start.newest.last.number ≡ length (updates ++ more))) }
     ensures tended { (text : List ℕ) (batches : List (List Messages)) (zone : List Record) (updates : List Update) (k : ℕ) (before after : CompactedState IoError) (start later : Recovery)
         → IsAt text batches zone updates k before → (from : StandsFrom written synced zone updates after.writer after.wanted)

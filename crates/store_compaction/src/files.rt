@@ -1,6 +1,6 @@
 //! The files of a compaction (own).
 ghost use Rattle.std.specs.Prelude.{◌≡◌, IfOk, IfErr};
-ghost use Rattle.store_compaction.specs.Writer.{trail_of};
+ghost use Rattle.store_compaction.specs.Writer.{recent_of};
 ghost use Rattle.store_compaction.specs.Crash.{IsPlaced};
 ghost use Rattle.store_compaction.specs.Files.{BeginsText, GoesOn, Stops, IsSettled};
 
@@ -52,7 +52,7 @@ pub fn replace_with_next<R: Files<File = File>>(
     ensures goes_on { IfOk result (λ done. GoesOn head writer.old writer.new done) }
     ensures stops { IfErr result (λ fault. Stops fault writer.old writer.new) }
     ensures placed { IsPlaced writer.old writer.new }
-    ensures trail { trail_of writer.new ≡ trail_of writer.old }
+    ensures recent { recent_of writer.new ≡ recent_of writer.old }
 {
     let next = match writer.next_journal(alloc, &head) {
         Ok(Some(next)) => next,

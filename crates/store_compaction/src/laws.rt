@@ -26,7 +26,7 @@ ghost use Rattle.store_recovery.specs.Choice.{IsChoice};
 ghost use Rattle.store_recovery.specs.Folder.{Folder, Means, HasPair, with_journal};
 ghost use Rattle.store_compaction.specs.declared.marked.Compaction.{Compaction};
 ghost use Rattle.update_batches.specs.declared.version_update.VersionUpdate.{VersionUpdate};
-ghost use Rattle.store_compaction.specs.RecentUpdates.{TrailState, IsTrail, last_in, followed};
+ghost use Rattle.store_compaction.specs.RecentUpdates.{RecentState, AreRecent, last_in, followed};
 ghost use Rattle.update_batches.specs.Batch.{versions_in, updates_of};
 ghost use Rattle.store_compaction.specs.Marked.{bodies_of, IsMarked};
 ghost use Rattle.store_compaction.specs.End.{IsEndOf};
@@ -34,17 +34,17 @@ ghost use Rattle.store_compaction.specs.End.{IsEndOf};
 /// Recent updates follow the published versions, each made from the previous one by the update of its step, and end at the last of them. After a batch is appended to a store's
 /// journal and its steps are added, the recent updates are the end of that store again. The first version of a zone alone is the end of a store that is created with it. The
 /// store's last version is that of the recent updates.
-pub fn trails_end_their_stores()
-    ensures follows { (trail : TrailState) (steps : List VersionUpdate) → IsTrail trail → AreMadeBy (last_in trail) (versions_in steps) (updates_of steps)
-        → IsTrail (followed trail steps) × (last_in (followed trail steps) ≡ newest_of (last_in trail) (versions_in steps)) }
+pub fn recent_updates_end_their_stores()
+    ensures follows { (recent : RecentState) (steps : List VersionUpdate) → AreRecent recent → AreMadeBy (last_in recent) (versions_in steps) (updates_of steps)
+        → AreRecent (followed recent steps) × (last_in (followed recent steps) ≡ newest_of (last_in recent) (versions_in steps)) }
     ensures begun { (text : List ℕ) (head : Head) (number keep : ℕ) (random : List ℕ) (origin : TextSum) (version : Version)
         → IsCreated version.zone number random origin text head → IsEndOf text head [] version.zone [] (record { oldest = version; steps = []; keep = keep }) 0 }
-    ensures goes_on { (text : List ℕ) (head : Head) (batches : List (List Messages)) (zone : List Record) (updates : List Update) (trail : TrailState) (k : ℕ) (steps : List VersionUpdate)
-        → IsEndOf text head batches zone updates trail k → AreMadeBy (last_in trail) (versions_in steps) (updates_of steps)
+    ensures goes_on { (text : List ℕ) (head : Head) (batches : List (List Messages)) (zone : List Record) (updates : List Update) (recent : RecentState) (k : ℕ) (steps : List VersionUpdate)
+        → IsEndOf text head batches zone updates recent k → AreMadeBy (last_in recent) (versions_in steps) (updates_of steps)
         → length (batch_of (updates_of steps)) < body_limit → length batches < 2 ^ 64
-        → (more : List Update) × (m : ℕ) × (k ≤ m) × IsEndOf text head (batches ++ updates_of steps ∷ []) zone (updates ++ more) (followed trail steps) m }
-    ensures last { (text : List ℕ) (head : Head) (batches : List (List Messages)) (zone : List Record) (updates : List Update) (trail : TrailState) (k : ℕ)
-        → IsEndOf text head batches zone updates trail k → (last_in trail).zone ≡ replay zone updates }
+        → (more : List Update) × (m : ℕ) × (k ≤ m) × IsEndOf text head (batches ++ updates_of steps ∷ []) zone (updates ++ more) (followed recent steps) m }
+    ensures last { (text : List ℕ) (head : Head) (batches : List (List Messages)) (zone : List Record) (updates : List Update) (recent : RecentState) (k : ℕ)
+        → IsEndOf text head batches zone updates recent k → (last_in recent).zone ≡ replay zone updates }
 {}
 
 /// A compaction leaves a store of the same versions. Its zone text is that of the version after the first k updates of the previous store, its batches are those that were kept,
@@ -59,17 +59,17 @@ pub fn compactions_keep_the_versions()
         → IsStore text head batches zone updates → k ≤ length updates → IsStore written next rest (replay zone (take k updates)) (drop k updates)
         → IsStarted text (journal_of head batches) start → IsStarted written (journal_of next rest) later
         → (start.newest.last.zone ≡ later.newest.last.zone) × (start.newest.last.number ≡ k + later.newest.last.number) }
-    ensures trail { (text written : List ℕ) (head next : Head) (batches rest : List (List Messages)) (zone : List Record) (updates : List Update) (trail : TrailState) (k m : ℕ)
-        → IsEndOf text head batches zone updates trail (k + m) → IsStore written next [] (replay zone (take k updates)) [] → AreBehind k batches rest
-        → IsEndOf written next rest (replay zone (take k updates)) (drop k updates) trail m }
+    ensures recent { (text written : List ℕ) (head next : Head) (batches rest : List (List Messages)) (zone : List Record) (updates : List Update) (recent : RecentState) (k m : ℕ)
+        → IsEndOf text head batches zone updates recent (k + m) → IsStore written next [] (replay zone (take k updates)) [] → AreBehind k batches rest
+        → IsEndOf written next rest (replay zone (take k updates)) (drop k updates) recent m }
 {}
 
 /// A start of a store finds each version of the recent updates that are its end, with the same zone. So does a start of the store that a compaction leaves, since they are the
 /// end of that one too ([`compactions_keep_the_versions`]). A secondary that is at most that many versions behind can therefore get the changes (RFC 1995, 4).
-pub fn starts_have_their_trails()
-    ensures { (text : List ℕ) (head : Head) (batches : List (List Messages)) (zone : List Record) (updates : List Update) (trail : TrailState) (k : ℕ) (start : Recovery)
-        → IsEndOf text head batches zone updates trail k → length trail.steps ≤ KEPT → IsStarted text (journal_of head batches) start
-        → newest (length trail.steps + 1) (zones_of (start.newest.older.items ++ start.newest.last ∷ [])) ≡ zones_of (trail.oldest ∷ versions_in trail.steps) }
+pub fn starts_have_their_recent_updates()
+    ensures { (text : List ℕ) (head : Head) (batches : List (List Messages)) (zone : List Record) (updates : List Update) (recent : RecentState) (k : ℕ) (start : Recovery)
+        → IsEndOf text head batches zone updates recent k → length recent.steps ≤ KEPT → IsStarted text (journal_of head batches) start
+        → newest (length recent.steps + 1) (zones_of (start.newest.older.items ++ start.newest.last ∷ [])) ≡ zones_of (recent.oldest ∷ versions_in recent.steps) }
 {}
 
 /// The choice at a start between a store and the zone text that the operator names is the same after a compaction: the sum of the original text and the zone of the last version

@@ -6,7 +6,7 @@
 //! written to one file. Only the text of the current compaction gets a journal. Its [`NextJournal`] has all these batches under a head of its own. Once it is the store's
 //! journal, the log continues with it, even a log that was stuck. Both stores have the same versions ([`compactions_keep_the_versions`]), so a start after a crash finds the same
 //! zone whichever of them the crash leaves ([`compactions_keep_the_choice`], [`what_a_crash_leaves_is_started`]). A start of the later one finds the recent versions too
-//! ([`starts_have_their_trails`]).
+//! ([`starts_have_their_recent_updates`]).
 //!
 //! Files: [`create_next_text`] creates the file of the next zone text, [`write_next_text`] writes it and calls fsync while updates continue, [`replace_with_next`] makes its
 //! journal the store's between two batches, and [`drop_old_texts`] removes texts only where it is known which journal a start finds. A crash at any step leaves the previous pair
@@ -39,8 +39,8 @@ pub use compactor_laws::{tended_stores_have_the_same_start, what_is_accepted_is_
 pub use event::{CompactionEvent, CompactionLog};
 pub use files::{create_next_text, drop_old_texts, replace_with_next, write_next_text};
 pub use laws::{
-    compactions_keep_the_choice, compactions_keep_the_versions, starts_have_their_trails,
-    trails_end_their_stores, what_a_crash_leaves_is_started,
+    compactions_keep_the_choice, compactions_keep_the_versions, recent_updates_end_their_stores,
+    starts_have_their_recent_updates, what_a_crash_leaves_is_started,
 };
 pub use marked::{Compaction, next_text};
 pub use next::{NextJournal, NextText};

@@ -5,7 +5,7 @@ ghost use Rattle.dns_message.specs.declared.update.Update.{Update};
 ghost use Rattle.store_files.specs.File.{written, synced};
 ghost use Rattle.journal.specs.Batch.{Messages};
 ghost use Rattle.journal.specs.Log.{is_stuck};
-ghost use Rattle.store_compaction.specs.Writer.{log_of, trail_of, head_of, under_way_of};
+ghost use Rattle.store_compaction.specs.Writer.{log_of, recent_of, head_of, under_way_of};
 ghost use Rattle.store_compaction.specs.Stands.{Stands};
 
 use crate::event::{CompactionEvent, CompactionLog};
@@ -34,7 +34,7 @@ pub(crate) fn begin_next<W: Wait, T: TextWriter, N: CompactionLog>(
     events: &mut N,
     later: bool,
 ) -> bool
-    ensures trail { trail_of writer.new ≡ trail_of writer.old }
+    ensures recent { recent_of writer.new ≡ recent_of writer.old }
     ensures head { head_of writer.new ≡ head_of writer.old }
     ensures log { log_of writer.new ≡ log_of writer.old }
     ensures is_present { (text : List ℕ) (batches : List (List Messages)) (zone : List Record) (updates : List Update) (k : ℕ)

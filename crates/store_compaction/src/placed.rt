@@ -4,7 +4,7 @@ ghost use Rattle.std.specs.Prelude.{◌≡◌, ℕ, List};
 ghost use Rattle.dns_rdata.specs.Record.{Record};
 ghost use Rattle.dns_message.specs.declared.update.Update.{Update};
 ghost use Rattle.store_files.specs.File.{written, synced};
-ghost use Rattle.store_compaction.specs.Writer.{trail_of, head_of};
+ghost use Rattle.store_compaction.specs.Writer.{recent_of, head_of};
 ghost use Rattle.store_compaction.specs.Crash.{IsPlaced};
 ghost use Rattle.store_compaction.specs.Stands.{Stands, StandsFrom};
 ghost use Rattle.store_compaction.specs.TextWriter.{Wanted as Text, IsWritten};
@@ -46,7 +46,7 @@ pub(crate) fn put_in_place<
     events: &mut N,
 ) -> Placed
     ensures placed { IsPlaced writer.old writer.new }
-    ensures trail { trail_of writer.new ≡ trail_of writer.old }
+    ensures recent { recent_of writer.new ≡ recent_of writer.old }
     ensures is_present { (text : List ℕ) (batches : List (List Messages)) (zone : List Record) (updates : List Update) (k : ℕ)
         → Stands written synced text batches zone updates k writer.old (T.wanted texts.old)
         → StandsFrom written synced zone updates writer.new (T.wanted texts.new) × ((head_of writer.new).origin ≡ (head_of writer.old).origin) }
@@ -72,7 +72,7 @@ fn replace<W: Wait, R: Files<File = File> + Alloc + Clone + Drop, N: CompactionL
     head: Head,
 ) -> Placed
     ensures placed { IsPlaced writer.old writer.new }
-    ensures trail { trail_of writer.new ≡ trail_of writer.old }
+    ensures recent { recent_of writer.new ≡ recent_of writer.old }
     ensures is_present { (wanted : Text) → IsWritten wanted head → (text : List ℕ) (batches : List (List Messages)) (zone : List Record) (updates : List Update) (k : ℕ)
         → Stands written synced text batches zone updates k writer.old (Some wanted)
         → StandsFrom written synced zone updates writer.new None × ((head_of writer.new).origin ≡ (head_of writer.old).origin) }

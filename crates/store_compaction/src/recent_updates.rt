@@ -40,9 +40,9 @@ impl Model for RecentUpdates {
     ghost use Rattle.std.specs.Prelude.{◌≤◌, ◌<◌, length};
     ghost use Rattle.std.specs.Vec.{vec_capacity};
     ghost use Rattle.dns_engine.specs.Held.{KEPT};
-    ghost use Rattle.store_compaction.specs.RecentUpdates.{TrailState};
+    ghost use Rattle.store_compaction.specs.RecentUpdates.{RecentState};
 
-    ghost Value = { TrailState };
+    ghost Value = { RecentState };
 
     ghost view = { λ a. record { oldest = a.oldest; steps = a.steps.items; keep = a.keep } };
 
@@ -56,7 +56,7 @@ impl RecentUpdates {
         version: SharedVersion,
         keep: usize,
     ) -> Result<RecentUpdates, AllocError>
-        ensures { IfOk result (λ trail. trail ≡ record { oldest = version; steps = []; keep = min keep KEPT }) }
+        ensures { IfOk result (λ recent. recent ≡ record { oldest = version; steps = []; keep = min keep KEPT }) }
     {
         let keep = keep.min(KEPT);
         Ok(RecentUpdates {

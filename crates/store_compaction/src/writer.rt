@@ -13,7 +13,7 @@ use update_batches::VersionUpdate;
 pub struct StoreWriter<D: Disk> {
     texts: TextNumbers,
     log: Log<D>,
-    trail: RecentUpdates,
+    recent: RecentUpdates,
     under_way: Option<Compaction>,
 }
 
@@ -22,7 +22,7 @@ impl<D: Disk> Drop for StoreWriter<D> {
         let StoreWriter {
             texts: _,
             log: _,
-            trail: _,
+            recent: _,
             under_way: _,
         } = self;
     }
@@ -40,16 +40,16 @@ impl<D: Disk> StoreWriter<D> {
     ghost use Rattle.journal.specs.Log.{octets_of, Holds, IsStuck, disk_of, is_stuck};
     ghost use Rattle.update_batches.specs.Batch.{versions_in, updates_of, logged};
     ghost use Rattle.store_compaction.specs.declared.marked.Compaction.{Compaction as Kept};
-    ghost use Rattle.update_batches.specs.declared.version_update.VersionUpdate.{VersionUpdate as TrailStep};
+    ghost use Rattle.update_batches.specs.declared.version_update.VersionUpdate.{VersionUpdate as RecentStep};
     ghost use Rattle.store_compaction.specs.RecentUpdates.{followed};
     ghost use Rattle.store_compaction.specs.End.{IsEndOf};
     ghost use Rattle.store_compaction.specs.Marked.{bodies_of, number_of, IsMarked, IsNextJournal};
-    ghost use Rattle.store_compaction.specs.Writer.{log_of, trail_of, head_of, under_way_of, last_of, AreSteps, Adds, Begins, IsOver, IsNextOf};
+    ghost use Rattle.store_compaction.specs.Writer.{log_of, recent_of, head_of, under_way_of, last_of, AreSteps, Adds, Begins, IsOver, IsNextOf};
 
     /// The writer of a store with this head, this log and these recent updates. No compaction is under way.
-    pub fn of(head: Head, log: Log<D>, trail: RecentUpdates) -> StoreWriter<D>
+    pub fn of(head: Head, log: Log<D>, recent: RecentUpdates) -> StoreWriter<D>
         ensures log { log_of result ≡ log }
-        ensures trail { trail_of result ≡ trail }
+        ensures recent { recent_of result ≡ recent }
         ensures head { head_of result ≡ head }
         ensures none { under_way_of result ≡ None }
         ensures last { last_of result ≡ head.number }
@@ -58,7 +58,7 @@ impl<D: Disk> StoreWriter<D> {
         StoreWriter {
             texts: TextNumbers { head, last },
             log,
-            trail,
+            recent,
             under_way: None,
         }
     }
@@ -79,9 +79,9 @@ impl<D: Disk> StoreWriter<D> {
             → Holds D.written D.synced head (log_of self.new) bodies ⊎ IsStuck D.synced head (log_of self.new) bodies) }
         ensures crash { (head : HeadState) (bodies : List (List ℕ)) → Holds D.written D.synced head (log_of self.old) bodies
             → LeavesOnly (D.history (disk_of (log_of self.old))) (D.history (disk_of (log_of self.new))) (octets_of head bodies) }
-        ensures trail { OnOk result ((steps : List TrailStep) × AreSteps steps (versions_in updates.now) (updates_of updates.now)
-            × (trail_of self.new ≡ followed (trail_of self.old) steps)) }
-        ensures trail_still { OnErr result (trail_of self.new ≡ trail_of self.old) }
+        ensures recent { OnOk result ((steps : List RecentStep) × AreSteps steps (versions_in updates.now) (updates_of updates.now)
+            × (recent_of self.new ≡ followed (recent_of self.old) steps)) }
+        ensures recent_still { OnErr result (recent_of self.new ≡ recent_of self.old) }
         ensures compaction { OnOk result (Adds (under_way_of self.old) (under_way_of self.new) (updates_of updates.now)) }
         ensures compaction_still { OnErr result (under_way_of self.new ≡ under_way_of self.old) }
         ensures marked { OnOk result (0 < length updates.now → (k : ℕ) (batches : List (List Messages)) (before now : Kept)
@@ -101,7 +101,7 @@ impl<D: Disk> StoreWriter<D> {
             return Err(LogFault::NoMemory);
         };
         self.log.append(alloc, &body)?;
-        self.trail.follow(steps);
+        self.recent.follow(steps);
         self.add(alloc, &body);
         Ok(())
     }
@@ -115,7 +115,7 @@ impl<D: Disk> StoreWriter<D> {
         ensures marked { (k : ℕ) (batches : List (List Messages)) (batch : List Messages) (before now : Kept) → under_way_of self.old ≡ Some before → under_way_of self.new ≡ Some now
             → IsMarked k batches before → k ≤ length (updates_in batches) → All IsRequest batch → body.now ≡ batch_of batch → IsMarked k (batches ++ batch ∷ []) now }
         ensures log { log_of self.new ≡ log_of self.old }
-        ensures trail { trail_of self.new ≡ trail_of self.old }
+        ensures recent { recent_of self.new ≡ recent_of self.old }
         ensures head { head_of self.new ≡ head_of self.old }
         ensures last { last_of self.new ≡ last_of self.old }
     {
@@ -136,20 +136,20 @@ impl<D: Disk> StoreWriter<D> {
         alloc: Global,
     ) -> Result<Option<NextText>, AllocError>
         ensures begun { IfOk result (λ found. MatchOption found (2 ^ 64 ≤ last_of self.old + 1)
-            (λ next. Begins (trail_of self.old) (last_of self.old) next (under_way_of self.new))) }
+            (λ next. Begins (recent_of self.old) (last_of self.old) next (under_way_of self.new))) }
         ensures marked { IfOk result (λ found. IfSome found (λ _. (text : List ℕ) (head : HeadState) (batches : List (List Messages)) (zone : List Record) (updates : List Update) (k : ℕ)
-            → IsEndOf text head batches zone updates (trail_of self.old) k → IfSome (under_way_of self.new) (IsMarked k batches))) }
+            → IsEndOf text head batches zone updates (recent_of self.old) k → IfSome (under_way_of self.new) (IsMarked k batches))) }
         ensures last { IfOk result (λ found. IfSome found (λ next. (last_of self.new ≡ next.number) × ((head_of self.old).number < next.number))) }
         ensures none { IfOk result (λ found. MatchOption found (self.new ≡ self.old) (λ _. ⊤)) }
         ensures same { OnErr result (self.new ≡ self.old) }
         ensures log { log_of self.new ≡ log_of self.old }
-        ensures trail { trail_of self.new ≡ trail_of self.old }
+        ensures recent { recent_of self.new ≡ recent_of self.old }
         ensures head { head_of self.new ≡ head_of self.old }
     {
         let Some(number) = self.texts.last.checked_add(1) else {
             return Ok(None);
         };
-        let (version, compaction) = self.trail.mark(rt, alloc, number)?;
+        let (version, compaction) = self.recent.mark(rt, alloc, number)?;
         self.texts.give(number);
         self.under_way = Some(compaction);
         Ok(Some(NextText { version, number }))
@@ -180,7 +180,7 @@ impl<D: Disk> StoreWriter<D> {
         ensures holds { (bodies : List (List ℕ)) → IsNextJournal head bodies next → D.written disk ≡ next.octets.items → D.synced disk ≡ next.octets.items
             → Holds D.written D.synced head (log_of self.new) bodies }
         ensures disk { disk_of (log_of self.new) ≡ disk }
-        ensures trail { trail_of self.new ≡ trail_of self.old }
+        ensures recent { recent_of self.new ≡ recent_of self.old }
         ensures head { head_of self.new ≡ head }
         ensures none { under_way_of self.new ≡ None }
         ensures last { last_of self.old ≤ last_of self.new }
@@ -197,7 +197,7 @@ impl<D: Disk> StoreWriter<D> {
         ensures still { (head : HeadState) (bodies : List (List ℕ)) → IsStuck D.synced head (log_of self.old) bodies → IsStuck D.synced head (log_of self.new) bodies }
         ensures stuck { is_stuck (log_of self.new) ≡ true }
         ensures disk { disk_of (log_of self.new) ≡ disk_of (log_of self.old) }
-        ensures trail { trail_of self.new ≡ trail_of self.old }
+        ensures recent { recent_of self.new ≡ recent_of self.old }
         ensures head { head_of self.new ≡ head_of self.old }
         ensures none { under_way_of self.new ≡ None }
         ensures last { (last_of self.old ≤ last_of self.new) × (number ≤ last_of self.new) }

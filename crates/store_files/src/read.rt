@@ -85,7 +85,7 @@ fn read_once<R: Files>(
     path: &str,
 ) -> io::Result<Option<(Vec<u8>, Vec<u8>)>> {
     let Some(journal) = read_there(rt, alloc, path)? else {
-        return Err(io::Error::new(ErrorKind::NotFound, "the folder has no journal"));
+        return Err(io::Error::new(ErrorKind::NotFound, "the directory has no journal"));
     };
     let text = read_text(rt, alloc, dir, &journal)?;
     let Some(again) = read_there(rt, alloc, path)? else {

@@ -19,7 +19,7 @@ use Rattle.store_recovery.specs.Replay.{AreRead}
 use Rattle.store_recovery.specs.Start.{IsStarted}
 use Rattle.store_compaction.specs.declared.writer.StoreWriter.{StoreWriter}
 use Rattle.store_compaction.specs.RecentUpdates.{last_in}
-use Rattle.store_compaction.specs.Writer.{log_of, trail_of}
+use Rattle.store_compaction.specs.Writer.{log_of, recent_of}
 use Rattle.store_compaction.proofs.JudgedLemmas.{last_more}
 use Rattle.store_compaction.specs.Kept.{CompactedState}
 use Rattle.store_compaction.specs.Crash.{Leaves}
@@ -29,7 +29,7 @@ use Rattle.store_compaction.proofs.LawLemmas.{kept_recovered}
 use Rattle.store_server.specs.declared.served.LoggedStore.{LoggedStore}
 use Rattle.store_server.specs.declared.served.ServerStore.{ServerStore}
 use Rattle.store_server.specs.declared.served.ServerStore.TheVariants.{Store}
-use Rattle.store_server.specs.Opened.{WritesOn}
+use Rattle.store_server.specs.OpenStore.{WritesOn}
 use Rattle.store_server.specs.Served.{HasIn, LeavesIn}
 
 pub resumed_has : (first : Version) (later : List Version) (writer : StoreWriter FileDisk IoError) → (writes : WritesOn first later writer)

@@ -3,5 +3,5 @@ pub mod LawLemmas
 pub mod RecoveredLemmas
 pub mod ResumedLemmas
 pub mod ServedLemmas
-mod TakenLemmas
-mod TakenStartLemmas
+mod TakeZoneLemmas
+mod TakeZoneStartLemmas

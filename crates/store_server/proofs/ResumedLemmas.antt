@@ -31,16 +31,16 @@ use Rattle.store_recovery.proofs.ReadLemmas.{read_once, read_long, read_first}
 use Rattle.store_recovery.proofs.CompactedLemmas.{replay_parts}
 use Rattle.update_batches.specs.declared.version_update.VersionUpdate.{VersionUpdate}
 use Rattle.store_compaction.specs.declared.writer.StoreWriter.{StoreWriter}
-use Rattle.store_compaction.specs.RecentUpdates.{TrailState, shortened, trimmed, longer, pushed, followed}
+use Rattle.store_compaction.specs.RecentUpdates.{RecentState, shortened, trimmed, longer, pushed, followed}
 use Rattle.update_batches.specs.Batch.{versions_in, updates_of}
-use Rattle.store_compaction.specs.Writer.{log_of, trail_of, head_of}
+use Rattle.store_compaction.specs.Writer.{log_of, recent_of, head_of}
 use Rattle.store_compaction.specs.End.{IsEndOf}
 use Rattle.store_compaction.proofs.RecentLemmas.{versions-append, updates_of-append, followed_is, followed_split}
 use Rattle.store_compaction.proofs.MadeLemmas.{made_leads, read_behind, made_first}
 use Rattle.store_compaction.proofs.StandsLemmas.{none_some}
 use Rattle.store_server.specs.declared.resume.OpenStore.{OpenStore}
 use Rattle.store_server.specs.Started.{GoesOn, IsCreatedStore}
-use Rattle.store_server.specs.Opened.{IsGiven, WritesOn}
+use Rattle.store_server.specs.OpenStore.{IsGiven, WritesOn}
 use Rattle.store_server.proofs.RecoveredLemmas.{started_store}
 use Rattle.store_server.proofs.ChainLemmas.{chain, chain_long, held_chain, Behind, behind, renumbered, made_chain, changes_behind}
 
@@ -184,13 +184,13 @@ pub has_many : (store : OpenStore) → IsGiven store → length store.later.item
 has_many store given = made_many store.first store.later.items (messages_in store) (has store given).made
 
 -- the version behind steps that are let go
-record Moved (zone : List Record) (messages : List Messages) (updates : List Update) (after : TrailState) (k : ℕ) : Type 0 where
+record Moved (zone : List Record) (messages : List Messages) (updates : List Update) (after : RecentState) (k : ℕ) : Type 0 where
   n : ℕ
   within : k + n ≤ length updates
   oldest : after.oldest.zone ≡ replay zone (take (k + n) updates)
   rest : updates_of after.steps ≡ drop (k + n) messages
 
-moved : (zone : List Record) (messages : List Messages) (updates : List Update) (first : Version) (after : TrailState) (k : ℕ) (gone all : List VersionUpdate) → AreRead messages updates → k ≤ length updates
+moved : (zone : List Record) (messages : List Messages) (updates : List Update) (first : Version) (after : RecentState) (k : ℕ) (gone all : List VersionUpdate) → AreRead messages updates → k ≤ length updates
     → first.zone ≡ replay zone (take k updates) → updates_of all ≡ drop k messages → AreMadeBy first (versions_in all) (updates_of all) → all ≡ gone ++ after.steps
     → after.oldest ≡ newest_of first (versions_in gone) → Moved zone messages updates after k
 moved zone messages updates first after k gone all read within oldest rest made parts newest =
@@ -222,14 +222,14 @@ moved zone messages updates first after k gone all read within oldest rest made 
           ∙ (ap (λ (m : ℕ). drop m (updates_of gone ++ updates_of after.steps)) is_n ∙ (ap (λ (ms : List Messages). drop n ms) (sym dropped) ∙ drop-drop n k messages));
     }
 
--- who writes it, whose trail has followed its versions
+-- its writer, whose recent updates have followed its versions
 pub writes_on : (store : OpenStore) (keep : ℕ) (steps : List VersionUpdate) (writer : StoreWriter FileDisk IoError) → IsGiven store → versions_in steps ≡ store.later.items → updates_of steps ≡ messages_in store
-    → trail_of writer ≡ followed (record { oldest = store.first; steps = []; keep = keep }) steps → log_of writer ≡ store.log → head_of writer ≡ store.head
+    → recent_of writer ≡ followed (record { oldest = store.first; steps = []; keep = keep }) steps → log_of writer ≡ store.log → head_of writer ≡ store.head
     → WritesOn store.first store.later.items writer
-writes_on store keep steps writer given versions octets trail log head =
+writes_on store keep steps writer given versions octets recent log head =
     let h : Has store = has store given in
-    let alone : TrailState = record { oldest = store.first; steps = []; keep = keep } in
-    let after : TrailState = followed alone steps in
+    let alone : RecentState = record { oldest = store.first; steps = []; keep = keep } in
+    let after : RecentState = followed alone steps in
     let made : AreMadeBy store.first (versions_in steps) (updates_of steps) =
     subst (λ (us : List Messages). AreMadeBy store.first (versions_in steps) us) (sym octets)
     (subst (λ (vs : List Version). AreMadeBy store.first vs (messages_in store)) (sym versions) h.made) in
@@ -246,28 +246,28 @@ writes_on store keep steps writer given versions octets trail log head =
       updates = h.updates;
       k = h.k + move.n;
       is_present = record {
-        end = subst (λ (t : TrailState). IsEndOf h.text (head_of writer) h.batches h.zone h.updates t (h.k + move.n)) (sym trail)
+        end = subst (λ (t : RecentState). IsEndOf h.text (head_of writer) h.batches h.zone h.updates t (h.k + move.n)) (sym recent)
             (subst (λ (one : Head). IsEndOf h.text one h.batches h.zone h.updates after (h.k + move.n)) (sym head) end);
         log = inl (subst (λ (l : Log FileDisk IoError). Holds written synced (head_of writer) l (map batch_of h.batches)) (sym log)
             (subst (λ (one : Head). Holds written synced one store.log (map batch_of h.batches)) (sym head) h.log));
         origin = λ other is. absurd (none_some other is);
         next = λ compaction other way is number. absurd (none_some other is);
       };
-      last = ap (λ (t : TrailState). newest_of t.oldest (versions_in t.steps)) trail ∙ (follows.1 ∙ ap (newest_of store.first) versions);
+      last = ap (λ (t : RecentState). newest_of t.oldest (versions_in t.steps)) recent ∙ (follows.1 ∙ ap (newest_of store.first) versions);
     }
 
--- a trail that is followed keeps as many older versions as before
-shortened_keep : (trail : TrailState) (steps : List VersionUpdate) → (shortened trail steps).keep ≡ trail.keep
-shortened_keep trail [] = refl
-shortened_keep trail (step ∷ steps) = refl
+-- recent updates with more steps added keep as many older versions as before
+shortened_keep : (recent : RecentState) (steps : List VersionUpdate) → (shortened recent steps).keep ≡ recent.keep
+shortened_keep recent [] = refl
+shortened_keep recent (step ∷ steps) = refl
 
-trimmed_keep : (trail : TrailState) → (trimmed trail).keep ≡ trail.keep
-trimmed_keep trail = by_length (nat_lt trail.keep (length trail.steps))
+trimmed_keep : (recent : RecentState) → (trimmed recent).keep ≡ recent.keep
+trimmed_keep recent = by_length (nat_lt recent.keep (length recent.steps))
   where
-    by_length : (b : Bool) → (if b then shortened trail trail.steps else trail).keep ≡ trail.keep
-    by_length true = shortened_keep trail trail.steps
+    by_length : (b : Bool) → (if b then shortened recent recent.steps else recent).keep ≡ recent.keep
+    by_length true = shortened_keep recent recent.steps
     by_length false = refl
 
-pub followed_keep : (trail : TrailState) (steps : List VersionUpdate) → (followed trail steps).keep ≡ trail.keep
-followed_keep trail [] = refl
-followed_keep trail (step ∷ steps) = followed_keep (pushed trail step) steps ∙ trimmed_keep (longer trail step)
+pub followed_keep : (recent : RecentState) (steps : List VersionUpdate) → (followed recent steps).keep ≡ recent.keep
+followed_keep recent [] = refl
+followed_keep recent (step ∷ steps) = followed_keep (pushed recent step) steps ∙ trimmed_keep (longer recent step)

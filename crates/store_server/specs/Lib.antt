@@ -1,6 +1,6 @@
 pub mod Failures
 pub mod Private
-pub mod Opened
+pub mod OpenStore
 pub mod Served
 pub mod Started
-pub mod Taken
+pub mod TakeZone

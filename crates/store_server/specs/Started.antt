@@ -32,8 +32,8 @@ use Rattle.store_server.specs.declared.refusal.Refusal.TheVariants.{Held, NoJour
 use Rattle.zone_change.specs.declared.fault.ChangeFault.TheVariants.{NoRoom}
 use Rattle.zone_change.specs.Change.{aimed, change_to, HasRoom}
 use Rattle.update_messages.specs.Prepared.{IsTooLarge}
-use Rattle.store_server.specs.Taken.{IsTakenJournal}
-use Rattle.store_server.specs.declared.taken.TakenZone.{TakenZone}
+use Rattle.store_server.specs.TakeZone.{IsTakenJournal}
+use Rattle.store_server.specs.declared.take_zone.TakenZone.{TakenZone}
 use Rattle.store_server.specs.declared.resume.OpenStore.{OpenStore}
 use Rattle.store_server.specs.declared.start.Served.{Served}
 use Rattle.store_server.specs.declared.start.Served.TheVariants.{Created, Same, Store, StoreThoughOther, Zone}

@@ -63,7 +63,8 @@ pub(crate) fn reason_of(alloc: Global, fault: &LogFault<io::Error>) -> Result<St
 /// Writes the result of a step of a compaction.
 fn write_compaction<W: fmt::Write>(f: &mut Formatter<W>, event: &CompactionEvent) -> fmt::Result {
     match event {
-        CompactionEvent::Started(number) => { write!(f, "store: writing zone-{number}") }
+        // It is not logged: see `LoggedCompactions`.
+        CompactionEvent::Started(_) => Ok(()),
         CompactionEvent::Replaced(number) => write!(
             f,
             "store: journal compacted into zone-{number}"

@@ -23,7 +23,7 @@ ghost use Rattle.store_compaction.specs.Has.{HasUpdates};
 ghost use Rattle.store_server.specs.declared.served.LoggedStore.{LoggedStore};
 ghost use Rattle.store_server.specs.declared.served.ServerStore.{ServerStore};
 ghost use Rattle.store_server.specs.declared.served.ServerStore.TheVariants.{Store};
-ghost use Rattle.store_server.specs.Opened.{WritesOn};
+ghost use Rattle.store_server.specs.OpenStore.{WritesOn};
 ghost use Rattle.store_server.specs.Served.{HasIn, LeavesIn};
 
 /// A store that a start returns has the updates of its journal after the zone of its text, and ends with the version that the server publishes

@@ -12,7 +12,7 @@ ghost use Rattle.store_server.specs.Private.{IsNotAgain, of_again};
 use crate::create::create_first;
 use crate::refusal::Refusal;
 use crate::resume::{OpenStore, resume_pair};
-use crate::taken::{TakenZone, taken_journal};
+use crate::take_zone::{TakenZone, taken_journal};
 use crate::updates::start_with_updates;
 use dns_name::Name;
 use dns_rdata::Serial;

@@ -1,4 +1,4 @@
-pub mod AskedLemmas
+pub mod RequestLemmas
 pub mod BegunLemmas
 pub mod FrameLemmas
 pub mod GoingLemmas

@@ -3,7 +3,7 @@ use Rattle.std.specs.Prelude.{◌≡◌, ℕ, List, [], ◌++◌, Option, Some, 
 use Rattle.tcp_connections.specs.Served.{Knowledge, Served, EndsAs}
 use Rattle.requests.specs.declared.stream_end.StreamEnd.{StreamEnd}
 use Rattle.requests.specs.declared.stream_end.StreamEnd.TheVariants.{Clean, Torn, Device, Spent, NoMemory}
-use Rattle.tcp_connections.specs.Asked.{Waits}
+use Rattle.tcp_connections.specs.Requests.{Waits}
 use Rattle.tcp_connections.specs.Kept.{Kept, told_by}
 
 -- a connection is held up: nothing is to be written, and the first request that is held is one of those that are answered later

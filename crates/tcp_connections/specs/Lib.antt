@@ -1,4 +1,4 @@
-pub mod Asked
+pub mod Requests
 pub mod Deadlines
 pub mod Ends
 pub mod Going

@@ -4,7 +4,7 @@ ghost use Rattle.std.specs.Net.Socket.{socket_ip};
 ghost use Rattle.dns_message.specs.Message.{message_limit};
 ghost use Rattle.requests.specs.Allowed.{IsReplyFrom, IsLaterFrom};
 ghost use Rattle.serve_core.specs.declared.transport.Transport.TheVariants.{Tcp};
-ghost use Rattle.tcp_connections.specs.Asked.{EachGrows};
+ghost use Rattle.tcp_connections.specs.Requests.{EachGrows};
 ghost use Rattle.tcp_connections.specs.Kept.{told_by, nothing_kept};
 ghost use Rattle.tcp_connections.specs.StreamOctets.{Writes};
 ghost use Rattle.tcp_connections.specs.Going.{Goes, Stops, IsHeldUp};

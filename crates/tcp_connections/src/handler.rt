@@ -7,7 +7,7 @@ ghost use Rattle.serve_core.specs.declared.transport.Transport.TheVariants.{Tcp}
 ghost use Rattle.tcp_connections.specs.Served.{Knowledge};
 ghost use Rattle.requests.specs.declared.stream_end.StreamEnd.{StreamEnd as EndOf};
 ghost use Rattle.serve_core.specs.declared.peer.Peer.{Peer as PeerAsking};
-ghost use Rattle.tcp_connections.specs.Asked.{EachGrows};
+ghost use Rattle.tcp_connections.specs.Requests.{EachGrows};
 ghost use Rattle.tcp_connections.specs.Kept.{messages_of};
 
 use requests::{Allowed, StreamEnd};
@@ -104,7 +104,7 @@ pub trait Handler<M: Messages> {
 
 /// The reply to a request, as that of the peer that rules make of who sends it from an address. The connection ends if there is no memory to read
 /// an update.
-#[tactic(auto, using(crate::proofs::AskedLemmas::each_itself))]
+#[tactic(auto, using(crate::proofs::RequestLemmas::each_itself))]
 pub(crate) fn reply_from<R: Wait, M: Messages, A: Handler<M>>(
     rt: &R,
     handler: &mut A,
@@ -135,7 +135,7 @@ pub(crate) fn reply_from<R: Wait, M: Messages, A: Handler<M>>(
 
 /// Takes up a request that comes after one whose reply is to be made later, with so many requests between the two, as that of the peer that rules
 /// make of who sends it from an address: whether it is. It isn't if there is no memory to read an update.
-#[tactic(auto, using(crate::proofs::AskedLemmas::each_itself))]
+#[tactic(auto, using(crate::proofs::RequestLemmas::each_itself))]
 pub(crate) fn prepare_from<R: Wait, M: Messages, A: Handler<M>>(
     rt: &R,
     handler: &mut A,

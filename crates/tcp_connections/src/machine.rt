@@ -7,7 +7,7 @@ ghost use Rattle.requests.specs.Allowed.{IsReplyFrom, IsLaterFrom};
 ghost use Rattle.tcp_connections.specs.Exchange.{Exchange};
 ghost use Rattle.requests.specs.declared.stream_end.StreamEnd.{StreamEnd as EndOf};
 ghost use Rattle.serve_core.specs.declared.transport.Transport.TheVariants.{Tcp};
-ghost use Rattle.tcp_connections.specs.Asked.{EachGrows, Waits};
+ghost use Rattle.tcp_connections.specs.Requests.{EachGrows, Waits};
 ghost use Rattle.tcp_connections.specs.Kept.{nothing_kept, due, IsFull, IsWaiting, awaited, messages_of, one_passed, passed_behind, taken_behind};
 
 use crate::handler::{Handler, Messages, Reply, prepare_from, reply_from};
@@ -188,7 +188,7 @@ impl<M: Messages> ConnectionState<M> {
     /// this comes first, it is `Full`, and if no whole request is held, `Done`. While it waits for its reply, those after it are taken up. The connection
     /// ends if no version can be loaded, or there is no memory for the reply or to read an update. Unless the request is answered, nothing changes. It is here alone that the length of a request's
     /// frame is read before the request is answered (RFC 1035, 4.2.2).
-    #[tactic(auto, using(crate::proofs::AskedLemmas::each_itself))]
+    #[tactic(auto, using(crate::proofs::RequestLemmas::each_itself))]
     pub fn answer<R: Wait, A: Handler<M>>(
         &mut self,
         rt: &R,
@@ -287,7 +287,7 @@ impl<M: Messages> ConnectionState<M> {
 
 /// Has requests taken up that come after one that waits for its reply: the whole ones that octets hold, in their order, up to the first that
 /// isn't taken up, and at most 63. Each is taken up as that of the peer that rules make of who sends it from an address.
-#[tactic(auto, using(crate::proofs::AskedLemmas::each_itself))]
+#[tactic(auto, using(crate::proofs::RequestLemmas::each_itself))]
 fn prepare_next<R: Wait, M: Messages, A: Handler<M>>(
     rt: &R,
     handler: &mut A,

@@ -4,7 +4,7 @@ ghost use Rattle.dns_message.specs.Frame.{frame_in};
 ghost use Rattle.dns_message.specs.Message.{message_limit};
 ghost use Rattle.requests.specs.Allowed.{IsReplyFrom, IsLaterFrom};
 ghost use Rattle.serve_core.specs.declared.transport.Transport.TheVariants.{Tcp};
-ghost use Rattle.tcp_connections.specs.Asked.{EachGrows, Waits};
+ghost use Rattle.tcp_connections.specs.Requests.{EachGrows, Waits};
 ghost use Rattle.tcp_connections.specs.Kept.{IsWaiting, told_by};
 ghost use Rattle.tcp_connections.specs.StreamOctets.{Stays, Writes, EndsTold, EndCounted};
 ghost use Rattle.tcp_connections.specs.Going.{Keeps, Goes, Stops, IsHeldUp};

@@ -4,7 +4,7 @@ ghost use Rattle.dns_message.specs.Message.{message_limit};
 ghost use Rattle.requests.specs.Allowed.{IsReplyFrom, IsLaterFrom};
 ghost use Rattle.serve_core.specs.declared.transport.Transport.TheVariants.{Tcp};
 ghost use Rattle.requests.specs.Served.{BeginsWith};
-ghost use Rattle.tcp_connections.specs.Asked.{EachGrows};
+ghost use Rattle.tcp_connections.specs.Requests.{EachGrows};
 ghost use Rattle.slab.specs.Slab.{get, slab_len};
 ghost use Rattle.tcp_connections.specs.Ends.{AreCounted};
 ghost use Rattle.tcp_connections.specs.Connections.{OwnServed, HasStopped, seen_of};
@@ -20,7 +20,7 @@ use std::sync::Wait;
 
 /// Serves the connection under a key, if there is one, by a share, and returns whether it could go on. If not, there is none, its stream
 /// would block, or its first request waits for its reply. A connection that ends is removed, and counted by how it ended.
-#[tactic(auto, using(crate::proofs::AskedLemmas::each_itself))]
+#[tactic(auto, using(crate::proofs::RequestLemmas::each_itself))]
 fn serve_key<R: Wait, S: Blocking + Drop, M: Messages, A: Handler<M>>(
     rt: &R,
     handler: &mut A,
@@ -58,7 +58,7 @@ fn serve_key<R: Wait, S: Blocking + Drop, M: Messages, A: Handler<M>>(
 /// that ends is removed, and counted by how it ended. Each request is answered by the rights that rules give to its sender, of its own connection's
 /// address, on its own stream; none appears, and none is removed that hasn't ended, whatever the keys. If there is no memory for the keys, nothing
 /// is served.
-#[tactic(auto, using(crate::proofs::AskedLemmas::each_itself))]
+#[tactic(auto, using(crate::proofs::RequestLemmas::each_itself))]
 pub fn serve_ready<R: Wait, S: Blocking + Drop, M: Messages, A: Handler<M>>(
     rt: &R,
     handler: &mut A,

@@ -6,7 +6,7 @@ ghost use Rattle.requests.specs.Allowed.{IsReplyFrom};
 ghost use Rattle.tcp_connections.specs.Served.{EndsAs};
 ghost use Rattle.requests.specs.declared.stream_end.StreamEnd.{StreamEnd as End};
 ghost use Rattle.serve_core.specs.declared.transport.Transport.TheVariants.{Tcp};
-ghost use Rattle.tcp_connections.specs.Asked.{EachGrows};
+ghost use Rattle.tcp_connections.specs.Requests.{EachGrows};
 ghost use Rattle.tcp_connections.specs.Going.{Keeps};
 
 use crate::handler::{Handler, Messages};

@@ -4,7 +4,7 @@ use Rattle.std.specs.List.{Contains}
 use Rattle.std.proofs.lemmas.List.Elements.{All-weaker}
 use Rattle.std.specs.declared.net.socket_addr.SocketAddr.{SocketAddr}
 use Rattle.tcp_connections.specs.Served.{Knowledge}
-use Rattle.tcp_connections.specs.Asked.{EachGrows}
+use Rattle.tcp_connections.specs.Requests.{EachGrows}
 use Rattle.tcp_connections.specs.Kept.{nothing_kept}
 use Rattle.slab.specs.Slab.{Slab, get, Updates}
 use Rattle.std.specs.Net.Socket.{socket_ip}
@@ -17,7 +17,7 @@ use Rattle.tcp_connections.specs.Connections.{HasStopped, seen_of}
 use Rattle.tcp_connections.specs.declared.limits.Limits.{Limits}
 use Rattle.tcp_connections.specs.declared.connection.Connection.{Connection}
 use Rattle.tcp_connections.proofs.OwnLemmas.{own_same}
-use Rattle.tcp_connections.proofs.AskedLemmas.{each_itself}
+use Rattle.tcp_connections.proofs.RequestLemmas.{each_itself}
 use Rattle.tcp_loop.specs.Steps.{scarce, HasBegun, Move, begins, gives, rests, Moves, stay, move, IsSwept, Sweeps, Serves, GoOn, HasTurned}
 
 module _ {S M : Type 0} (origin : S → SocketAddr) (octets : S → Option (List ℕ × List ℕ)) (now : ℕ) where

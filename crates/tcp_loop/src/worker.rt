@@ -3,7 +3,7 @@ ghost use Rattle.std.specs.Prelude.{◌≡◌, ◌<◌, ◌≤◌, ◌⊎◌, �
 ghost use Rattle.dns_message.specs.Message.{message_limit};
 ghost use Rattle.requests.specs.Allowed.{IsReplyFrom, IsLaterFrom};
 ghost use Rattle.serve_core.specs.declared.transport.Transport.TheVariants.{Tcp};
-ghost use Rattle.tcp_connections.specs.Asked.{EachGrows};
+ghost use Rattle.tcp_connections.specs.Requests.{EachGrows};
 ghost use Rattle.std.specs.Net.Socket.{socket_ip};
 ghost use Rattle.tcp_connections.specs.Group.{IsGroupOf};
 ghost use Rattle.slab.specs.Slab.{get, slab_len};
@@ -350,7 +350,7 @@ impl<S: Blocking + Remote + Drop, M: Messages> EventLoop<S, M> {
     /// another's replies. A connection is removed only if it ends, if its peer takes too long, or, when all places are taken, if it has gone
     /// longest without a whole request. Of the connections that are served, each that is still open, whose stream wouldn't block, and whose first
     /// request doesn't wait for its reply, is among those that could go on.
-    #[tactic(auto, using(tcp_connections::proofs::AskedLemmas::each_itself))]
+    #[tactic(auto, using(tcp_connections::proofs::RequestLemmas::each_itself))]
     pub fn poll_once<R: Wait, P: Readiness<S>, L: Arrivals<Stream = S>, A: Handler<M>>(
         &mut self,
         rt: &R,

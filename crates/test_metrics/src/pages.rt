@@ -1,20 +1,23 @@
 //! What is asked, and what is replied.
 use http_page::{
-    Asked, Content, Graph, Health, Line, Overview, Secondary, Status, asked_by, health_of,
+    Content, Graph, Health, Line, Overview, PageRequest, Secondary, Status, asked_by, health_of,
     write_page, write_reply,
 };
 use std::alloc::{AllocError, Global};
 
 /// Requests, and what they ask for (RFC 9112, 3).
-const REQUESTS: [(&[u8], Asked); 8] = [
-    (b"GET /metrics HTTP/1.1\r\nHost: a\r\n\r\n", Asked::Metrics),
-    (b"GET /healthz HTTP/1.0\r\n\r\n", Asked::Health),
-    (b"GET / HTTP/1.1\r\nHost: a\r\n\r\n", Asked::Page),
-    (b"GET /metrics/ HTTP/1.1\r\n\r\n", Asked::Unknown),
-    (b"POST /metrics HTTP/1.1\r\n\r\n", Asked::OtherMethod),
-    (b"GET /metrics HTTP/1.1\r\nHost: a\r\n", Asked::More),
-    (b"", Asked::More),
-    (b"\x00\x01\x02 ", Asked::Bad),
+const REQUESTS: [(&[u8], PageRequest); 8] = [
+    (
+        b"GET /metrics HTTP/1.1\r\nHost: a\r\n\r\n",
+        PageRequest::Metrics,
+    ),
+    (b"GET /healthz HTTP/1.0\r\n\r\n", PageRequest::Health),
+    (b"GET / HTTP/1.1\r\nHost: a\r\n\r\n", PageRequest::Page),
+    (b"GET /metrics/ HTTP/1.1\r\n\r\n", PageRequest::Unknown),
+    (b"POST /metrics HTTP/1.1\r\n\r\n", PageRequest::OtherMethod),
+    (b"GET /metrics HTTP/1.1\r\nHost: a\r\n", PageRequest::More),
+    (b"", PageRequest::More),
+    (b"\x00\x01\x02 ", PageRequest::Bad),
 ];
 
 /// How many requests ask for something else.

@@ -56,8 +56,8 @@ fn begin_writer(rt: &HostRuntime, dir: &str) -> Result<StoreWriter<FileDisk>, Fa
     let (octets, salt) = write_head(alloc, &head)?;
     let disk = begin_pair(rt, alloc, dir, text.as_bytes(), &octets)?;
     let log = Log::resume(disk, &salt, 0, octets.len() as u64)?;
-    let trail = RecentUpdates::of(alloc, first, KEPT)?;
-    Ok(StoreWriter::of(head, log, trail))
+    let recent = RecentUpdates::of(alloc, first, KEPT)?;
+    Ok(StoreWriter::of(head, log, recent))
 }
 
 /// A new store in a directory of its own.

@@ -238,9 +238,9 @@ fn is_served<R: Net + Threads + Wait + Clock + Sync>(
         Takes::Connections => (None, Some(listener)),
         Takes::Both => (Some(datagrams), Some(listener)),
     };
-    let (progress, idle) = (WorkLimit::new(case.most), WorkLimit::new(0));
+    let (limit, idle) = (WorkLimit::new(case.most), WorkLimit::new(0));
     let mut duties = Vec::new(alloc);
-    add_worker(alloc, 1, &progress, own, &mut duties)?;
+    add_worker(alloc, 1, &limit, own, &mut duties)?;
     if case.has_idle {
         let (datagrams, listener) = sockets(rt)?;
         let own = (Some(datagrams), Some(listener));

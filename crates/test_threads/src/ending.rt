@@ -101,7 +101,7 @@ fn break_listener(listener: &TcpListener) -> io::Result<()> {
 pub(crate) fn add_worker<'a>(
     alloc: Global,
     worker: usize,
-    progress: &'a WorkLimit,
+    limit: &'a WorkLimit,
     own: (Option<UdpSocket>, Option<TcpListener>),
     duties: &mut Vec<ThreadSpec<'a>>,
 ) -> io::Result<()> {
@@ -110,7 +110,7 @@ pub(crate) fn add_worker<'a>(
         let sockets = Sockets::Datagrams(socket);
         duties.push(ThreadSpec {
             worker,
-            progress,
+            limit,
             sockets,
         })?;
     }
@@ -118,7 +118,7 @@ pub(crate) fn add_worker<'a>(
         let sockets = Sockets::Connections(Vec::from_array(alloc, [listener])?);
         duties.push(ThreadSpec {
             worker,
-            progress,
+            limit,
             sockets,
         })?;
     }
@@ -184,19 +184,19 @@ pub(crate) fn served<R: Net + Threads + Wait + Clock + Sync>(
 fn duties_of<'a, R: Net>(
     rt: &R,
     alloc: Global,
-    progresses: &'a [WorkLimit],
+    limits: &'a [WorkLimit],
     is_broken: bool,
 ) -> io::Result<Vec<ThreadSpec<'a>>> {
     let mut duties = Vec::new(alloc);
     let mut worker = 0usize;
-    for progress in progresses {
+    for limit in limits {
         worker = worker.saturating_add(1);
         let (datagrams, listener) = sockets(rt)?;
         if is_broken && worker == 2 {
             break_listener(&listener)?;
         }
         let own = (Some(datagrams), Some(listener));
-        add_worker(alloc, worker, progress, own, &mut duties)?;
+        add_worker(alloc, worker, limit, own, &mut duties)?;
     }
     Ok(duties)
 }
@@ -209,8 +209,8 @@ pub(crate) fn served_by_two<R: Net + Threads + Wait + Clock + Sync>(
     most: u64,
     is_broken: bool,
 ) -> Option<u64> {
-    let progresses = [WorkLimit::new(most), WorkLimit::new(most)];
-    let duties = duties_of(rt, alloc, &progresses, is_broken).ok()?;
+    let limits = [WorkLimit::new(most), WorkLimit::new(most)];
+    let duties = duties_of(rt, alloc, &limits, is_broken).ok()?;
     served(rt, alloc, duties)
 }
 

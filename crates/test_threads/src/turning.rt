@@ -172,17 +172,17 @@ impl Handler<Transfer> for Putting<'_> {
 
     ghost spent = { λ _. ⊥ };
 
-    #[tactic(auto, using(tcp_connections::proofs::AskedLemmas::each_itself))]
+    #[tactic(auto, using(tcp_connections::proofs::RequestLemmas::each_itself))]
     fn turn_to(&mut self, _from: SocketAddr, key: usize) {
         self.asker = key;
     }
 
-    #[tactic(auto, using(tcp_connections::proofs::AskedLemmas::each_itself))]
+    #[tactic(auto, using(tcp_connections::proofs::RequestLemmas::each_itself))]
     fn set_peer(&mut self, other: Peer) {
         self.peer = other;
     }
 
-    #[tactic(auto, using(tcp_connections::proofs::AskedLemmas::each_itself))]
+    #[tactic(auto, using(tcp_connections::proofs::RequestLemmas::each_itself))]
     fn reply<R: Wait>(
         &mut self,
         rt: &R,
@@ -196,7 +196,7 @@ impl Handler<Transfer> for Putting<'_> {
         Ok(Reply::Later)
     }
 
-    #[tactic(auto, using(tcp_connections::proofs::AskedLemmas::each_itself))]
+    #[tactic(auto, using(tcp_connections::proofs::RequestLemmas::each_itself))]
     fn prepare<R: Wait>(
         &mut self,
         _rt: &R,
@@ -351,7 +351,7 @@ fn heard<'a>(
 struct Shared {
     wake_list: WakeList,
     shutdown: Shutdown,
-    progress: WorkLimit,
+    limit: WorkLimit,
     clock: Steps,
 }
 
@@ -360,7 +360,7 @@ fn shared_for(alloc: Global, case: &Case) -> Option<Shared> {
     Some(Shared {
         wake_list: WakeList::new(alloc, 8).ok()?,
         shutdown: Shutdown::new(1),
-        progress: WorkLimit::new(case.most),
+        limit: WorkLimit::new(case.most),
         clock: Steps {
             read: AtomicU64::new(2),
             step: case.step,
@@ -395,7 +395,7 @@ fn job_of<'a>(
         places_of(alloc, case.comers)?,
         EventLoop::new(alloc, 8, 1).ok()?,
         plan,
-        StopFlag::new(&shared.shutdown, &shared.progress),
+        StopFlag::new(&shared.shutdown, &shared.limit),
         &shared.clock,
         Scratch::new(alloc).ok()?,
     );

@@ -52,7 +52,7 @@ impl Handler<NoMessages> for TakesUp {
 
     ghost spent = { λ takes. Unit {0} };
 
-    #[tactic(auto, using(tcp_connections::proofs::AskedLemmas::each_itself))]
+    #[tactic(auto, using(tcp_connections::proofs::RequestLemmas::each_itself))]
     fn turn_to(&mut self, _from: SocketAddr, key: usize) {
         self.asker = key;
     }
@@ -61,7 +61,7 @@ impl Handler<NoMessages> for TakesUp {
         self.peer = other;
     }
 
-    #[tactic(auto, using(tcp_connections::proofs::AskedLemmas::each_itself))]
+    #[tactic(auto, using(tcp_connections::proofs::RequestLemmas::each_itself))]
     fn reply<R: Wait>(
         &mut self,
         _rt: &R,
@@ -71,7 +71,7 @@ impl Handler<NoMessages> for TakesUp {
         Ok(Reply::Later)
     }
 
-    #[tactic(auto, using(tcp_connections::proofs::AskedLemmas::each_itself))]
+    #[tactic(auto, using(tcp_connections::proofs::RequestLemmas::each_itself))]
     fn prepare<R: Wait>(
         &mut self,
         _rt: &R,

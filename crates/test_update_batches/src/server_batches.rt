@@ -11,8 +11,8 @@ use std::sync::Wait;
 use std::test::Fail;
 use update_batches::{Most, Put, Queue, UpdateThread};
 use zone_server::{
-    Fetched, PublishRight, QueuedUpdate, ReplyTo, Serials, Server, ServerLedgers, ServerName,
-    ServerPublisher, UpdateResult,
+    PublishRight, QueuedUpdate, ReplyTo, Serials, Server, ServerLedgers, ServerName,
+    ServerPublisher, TicketPoll, UpdateResult,
 };
 
 /// What is run over a server.
@@ -168,9 +168,9 @@ fn judge_three<R: Wait, Z: FirstZone, N: ServerName>(
     };
     let (number, fetched) = server.fetch(rt, &mut reader, ticket);
     let fetched = match fetched {
-        Fetched::Ready(done) => Some(done),
-        Fetched::Unknown => None,
-        Fetched::Pending(ticket) => {
+        TicketPoll::Ready(done) => Some(done),
+        TicketPoll::Unknown => None,
+        TicketPoll::Pending(ticket) => {
             server.leave(rt, ticket);
             None
         }

@@ -60,9 +60,9 @@ impl Store {
         calls.push(0).ok()?;
         let (octets, salt) = write_head(alloc, &head_of_zone()).ok()?;
         let disk = MemoryDisk::of(alloc, &octets).ok()?.planned(calls);
-        let trail = RecentUpdates::of(alloc, first, KEPT).ok()?;
+        let recent = RecentUpdates::of(alloc, first, KEPT).ok()?;
         let log = Log::resume(disk, &salt, 0, octets.len() as u64).ok()?;
-        Some(Store::Journal(StoreWriter::of(head_of_zone(), log, trail)))
+        Some(Store::Journal(StoreWriter::of(head_of_zone(), log, recent)))
     }
 
     /// The IDs of the updates that a start recovers after a crash. None if memory allocation fails.

@@ -127,12 +127,12 @@ impl PlainText {
         let Some(at) = self.line.checked_add(1) else {
             return Err(AllocError);
         };
-        self.begin(alloc, at, file, line)?;
+        self.start_part(alloc, at, file, line)?;
         Ok(at)
     }
 
-    /// Begins a part at this line of the text, with this line of a file.
-    fn begin(
+    /// Starts a part at this line of the text, with this line of a file.
+    fn start_part(
         &mut self,
         alloc: Global,
         at: u64,

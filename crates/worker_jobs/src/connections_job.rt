@@ -2,15 +2,15 @@
 ghost use Rattle.std.specs.Prelude.{◌≡◌, ◌⊎◌, Some};
 ghost use Rattle.requests.specs.Allowed.{IsReplyFrom};
 ghost use Rattle.serve_core.specs.declared.transport.Transport.TheVariants.{Tcp};
-ghost use Rattle.tcp_connections.specs.Asked.{EachGrows};
+ghost use Rattle.tcp_connections.specs.Requests.{EachGrows};
 ghost use Rattle.tcp_loop.specs.Steps.{Turned};
 ghost use Rattle.worker_jobs.specs.Ended.{end_by};
 ghost use Rattle.worker_jobs.specs.Lost.{lost_of, lost_since};
 
-use crate::progress::StopFlag;
 use crate::scratch::Scratch;
 use crate::wake_list::WakeList;
 use crate::waking_poll::WakingPoll;
+use crate::work_limit::StopFlag;
 use counted_requests::Resting;
 use crossbeam_utils::CachePadded;
 use requests::Allowed;
@@ -194,7 +194,7 @@ impl<
     {
         let ended = ended_in(tally);
         if ended > self.counted {
-            self.stop.progress.add(ended - self.counted);
+            self.stop.limit.add(ended - self.counted);
             self.counted = ended;
         }
     }
@@ -222,7 +222,7 @@ impl<
     }
 
     /// Takes a turn of the event loop, unless the worker is to end. Gives an end where the worker is to end, or where no more turns can be taken.
-    #[tactic(auto, using(tcp_connections::proofs::AskedLemmas::each_itself))]
+    #[tactic(auto, using(tcp_connections::proofs::RequestLemmas::each_itself))]
     fn turn<R: Wait, A: Resting<M>, O: ServiceLog>(
         &mut self,
         rt: &R,
@@ -235,7 +235,7 @@ impl<
         ensures plan { self.new.plan ≡ self.old.plan }
     {
         if self.stop.is_over() {
-            return Some(JobEnd::Done(self.stop.progress.done()));
+            return Some(JobEnd::Done(self.stop.limit.done()));
         }
         self.poll.take_woken(rt);
         handler.rest(self.event_loop.tally());

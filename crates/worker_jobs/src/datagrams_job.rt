@@ -4,9 +4,9 @@ ghost use Rattle.zone_server.specs.declared.service_log.JobEnd.{JobEnd as EndOfJ
 ghost use Rattle.requests.specs.Served.{Grows};
 ghost use Rattle.worker_jobs.specs.Ended.{EndsSo, JobEndsBy};
 
-use crate::progress::StopFlag;
 use crate::scratch::Scratch;
 use crate::udp_job::UdpJob;
+use crate::work_limit::StopFlag;
 use requests::{Allowed, Datagrams, Handler};
 use std::sync::Wait;
 use zone_server::JobEnd;
@@ -38,7 +38,7 @@ fn end_of(end: JobEnd, stop: StopFlag<'_>) -> JobEnd
     match end {
         JobEnd::Device => {
             if stop.is_over() {
-                return JobEnd::Done(stop.progress.done());
+                return JobEnd::Done(stop.limit.done());
             }
             JobEnd::Device
         }

@@ -9,7 +9,7 @@ ghost use Rattle.requests.specs.Datagrams.{count_of};
 
 use crate::held_replies::{HeldReplies, MOST};
 use crate::interrupted::is_interrupted;
-use crate::progress::StopFlag;
+use crate::work_limit::StopFlag;
 use message_counts::DatagramCounts;
 use requests::Datagrams;
 use std::alloc::Global;
@@ -214,7 +214,7 @@ impl<T: DatagramCounts> Datagrams for WorkerSocket<'_, T> {
     fn receive(&mut self, buf: &mut [u8]) -> Option<(usize, SocketAddr)> {
         match self.next(buf) {
             Some(received) => {
-                self.stop.progress.add(1);
+                self.stop.limit.add(1);
                 self.counts.received(&buf[..received.0], &received.1);
                 Some(received)
             }

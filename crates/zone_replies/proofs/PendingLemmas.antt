@@ -9,9 +9,9 @@ use Rattle.zone_tree.specs.Version.{Version}
 use Rattle.snapshot_cell.specs.Tokens.{ReaderState}
 use Rattle.requests.specs.Served.{Learned, Grows}
 use Rattle.requests.proofs.TurnLemmas.{grows_itself, grows_more}
-use Rattle.tcp_connections.specs.Asked.{EachGrows}
+use Rattle.tcp_connections.specs.Requests.{EachGrows}
 use Rattle.zone_server.specs.Known.{learned_by}
-use Rattle.zone_replies.specs.declared.pending_updates.Place.{Place}
+use Rattle.zone_replies.specs.declared.pending_updates.ReplyPlace.{ReplyPlace}
 use Rattle.zone_replies.specs.State.{PendingState}
 use Rattle.std.specs.declared.net.socket_addr.SocketAddr.{SocketAddr}
 use Rattle.zone_server.specs.declared.open_ticket.WaitingTicket.{WaitingTicket}
@@ -70,7 +70,7 @@ pub set_length : (taken rest : List (Option PendingState)) (key : ℕ) → rest 
 set_length taken rest key is within = subst (λ (n : ℕ). key < n) (sym (ap length is ∙ length-set taken key None)) within
 
 -- and where a place is, some are pending
-pub place_entry : (taken : List (Option PendingState)) (key : ℕ) (place : Place) → place_in taken key ≡ Some place → entry_in taken key ≡ None → ⊥
+pub place_entry : (taken : List (Option PendingState)) (key : ℕ) (place : ReplyPlace) → place_in taken key ≡ Some place → entry_in taken key ≡ None → ⊥
 place_entry taken key place here none = by (slice_get taken key) here none
   where
     by : (entry : Option (Option PendingState)) → place_of entry ≡ Some place → entry_of entry ≡ None → ⊥
@@ -134,7 +134,7 @@ none_asked taken reader key none = by (slice_get taken key) none
     by (Some (Some one)) none = absurd (cc)
 
 -- where one is pending, it is what was known when the first of those that wait together was submitted
-pub place_asked : (taken : List (Option PendingState)) (reader : ReaderState Version) (key : ℕ) (place : Place) → AreTakenUp taken reader → place_in taken key ≡ Some place
+pub place_asked : (taken : List (Option PendingState)) (reader : ReaderState Version) (key : ℕ) (place : ReplyPlace) → AreTakenUp taken reader → place_in taken key ≡ Some place
     → (one : PendingState) × (asked_of (slice_get taken key) reader ≡ learned_by one.known) × IsTakenUp reader one × (one.number ≡ place.number)
 place_asked taken reader key place all here = by (slice_get taken key) (λ entry is. entry_at taken reader key entry all is) here
   where
@@ -142,9 +142,9 @@ place_asked taken reader key place all here = by (slice_get taken key) (λ entry
         → (one : PendingState) × (asked_of entry reader ≡ learned_by one.known) × IsTakenUp reader one × (one.number ≡ place.number)
     by None is here = absurd (cc)
     by (Some None) is here = absurd (cc)
-    by (Some (Some one)) is here = (one, refl, is (Some one) refl, ap (λ (p : Option Place). option_or p one.number) here)
+    by (Some (Some one)) is here = (one, refl, is (Some one) refl, ap (λ (p : Option ReplyPlace). option_or p one.number) here)
       where
-        option_or : Option Place → ℕ → ℕ
+        option_or : Option ReplyPlace → ℕ → ℕ
         option_or None n = n
         option_or (Some p) n = p.number
 

@@ -11,7 +11,7 @@ use Rattle.serve_core.specs.declared.peer.Peer.{Peer}
 use Rattle.requests.specs.Served.{Learned, Grows}
 use Rattle.requests.proofs.TurnLemmas.{grows_itself}
 use Rattle.tcp_connections.specs.Served.{Knowledge, Extends, waited, prompt}
-use Rattle.tcp_connections.specs.Asked.{EachGrows}
+use Rattle.tcp_connections.specs.Requests.{EachGrows}
 use Rattle.tcp_connections.specs.Kept.{messages_of}
 use Rattle.tcp_connections.specs.declared.handler.Reply.{Reply}
 use Rattle.tcp_connections.specs.declared.handler.Reply.TheVariants.{Later}
@@ -21,13 +21,13 @@ use Rattle.zone_server.specs.UpdateResult.{IsDone}
 use Rattle.zone_server.specs.Known.{learned_by}
 use Rattle.zone_server.specs.QueuedUpdate.{MeetsAt, IsSubmitted}
 use Rattle.zone_server.specs.declared.submit.Submitted.{Submitted}
-use Rattle.zone_server.specs.declared.submit.Submitted.TheVariants.{Replied, Waits}
+use Rattle.zone_server.specs.declared.submit.Submitted.TheVariants.{Replied, Pending}
 use Rattle.zone_server.specs.Answer.{PermitsTransfer}
 use Rattle.zone_server.specs.Replied.{IsReplied, IsQuery, IsTransfer, HasNoAnswer}
 use Rattle.zone_server.proofs.AboutLemmas.{no_older}
 use Rattle.zone_server.proofs.ReplyDoneLemmas.{done_replied, unheard_replied, grows_met}
 use Rattle.zone_server.proofs.ReplyLemmas.{still_replied, update_is_no_query, update_is_not_silent}
-use Rattle.zone_replies.specs.declared.pending_updates.Place.{Place}
+use Rattle.zone_replies.specs.declared.pending_updates.ReplyPlace.{ReplyPlace}
 use Rattle.zone_replies.specs.State.{PendingState, HandlerState}
 use Rattle.zone_server.specs.declared.answer.UpdateOutcome.{UpdateOutcome}
 use Rattle.dns_rdata.specs.declared.numbers.Rcode.{Rcode}
@@ -46,7 +46,7 @@ meets_grows first before after number meets = grows_met before after meets.0.hel
 
 pub submitted_grows : (first : List Record) (peer : Peer) (request : List ℕ) (before after : ReaderState Version) (out : List ℕ) (submitted : Submitted) → IsSubmitted first peer request before after out submitted → Grows (learned_by after) (learned_by before)
 submitted_grows first peer request before after out (Replied len outcome) is = is.grows
-submitted_grows first peer request before after out (Waits ticket number put) is = meets_grows first before after number is
+submitted_grows first peer request before after out (Pending ticket number put) is = meets_grows first before after number is
 
 -- and what was known before isn't newer than the version of the number that it has met
 pub meets_taken : (first : List Record) (before after : ReaderState Version) (number : ℕ) (one : PendingState) → MeetsAt first before after number → one.known ≡ before → one.number ≡ number → IsTakenUp after one
@@ -59,14 +59,14 @@ meets_taken first before after number one meets is same = record {
 }
 
 -- what is told is what is written
-pub told_written : (peer : Peer) (place : Place) (done : UpdateResult) (reported : UpdateOutcome) (octets : List ℕ) → IsToldAt place done reported
+pub told_written : (peer : Peer) (place : ReplyPlace) (done : UpdateResult) (reported : UpdateOutcome) (octets : List ℕ) → IsToldAt place done reported
     → octets ≡ fit (coded (heading_of_update done.asked.update) reported.code) (limit_of peer.transport None) → IsWritten peer place done octets
 told_written peer place done reported octets (inl own) is =
     inl (own.0, is ∙ ap (λ (r : Rcode). fit (coded (heading_of_update done.asked.update) r) (limit_of peer.transport None)) own.1)
 told_written peer place done reported octets (inr late) is =
     inr (late.0, is ∙ ap (λ (r : Rcode). fit (coded (heading_of_update done.asked.update) r) (limit_of peer.transport None)) late.1)
 
-module _ (first : List Record) (peer : Peer) (taken : List (Option PendingState)) (before after : ReaderState Version) (key number : ℕ) (place : Place) (done : UpdateResult) (request out : List ℕ) (len : ℕ) where
+module _ (first : List Record) (peer : Peer) (taken : List (Option PendingState)) (before after : ReaderState Version) (key number : ℕ) (place : ReplyPlace) (done : UpdateResult) (request out : List ℕ) (len : ℕ) where
   -- what is written of an update that was taken up is its reply
   by_one : (one : PendingState) → IsTakenUp before one → one.number ≡ place.number → MeetsAt first before after number → IsDone first after.seen done → reads request ≡ SaysUpdate done.asked.update → done.asked.may ≡ peer.may_update
       → IsWritten peer place done (take len out) → IsReplied first peer (learned_by one.known) (learned_by after) request (take len out ∷ [])

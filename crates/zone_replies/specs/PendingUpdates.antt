@@ -21,7 +21,7 @@ use Rattle.zone_server.specs.Known.{learned_by}
 use Rattle.zone_server.specs.Replied.{IsReplied}
 use Rattle.zone_server.specs.declared.open_ticket.WaitingTicket.{WaitingTicket}
 use Rattle.zone_replies.specs.State.{PendingState}
-use Rattle.zone_replies.specs.declared.pending_updates.Place.{Place}
+use Rattle.zone_replies.specs.declared.pending_updates.ReplyPlace.{ReplyPlace}
 
 -- what was known when the first of the updates that wait together on a connection was submitted, or what the reader has learned where none is pending
 abbrev pub asked_of : Option (Option PendingState) → ReaderState Version → Learned Version
@@ -34,12 +34,12 @@ abbrev pub known_at : List (Option PendingState) → ReaderState Version → ℕ
 known_at taken reader key = record { asked = asked_of (slice_get taken key) reader; latest = learned_by reader }
 
 -- where the reply to the first pending update of an entry will be, if it has one
-abbrev pub place_of : Option (Option PendingState) → Option Place
+abbrev pub place_of : Option (Option PendingState) → Option ReplyPlace
 place_of None = None
 place_of (Some None) = None
 place_of (Some (Some taken)) = Some (record { from = taken.from; number = taken.number })
 
-abbrev pub place_in : List (Option PendingState) → ℕ → Option Place
+abbrev pub place_in : List (Option PendingState) → ℕ → Option ReplyPlace
 place_in taken key = place_of (slice_get taken key)
 
 -- the pending updates of an entry, if it has some
@@ -99,13 +99,13 @@ IsLater peer request = (is_update request ≡ true) × (peer.may_update ≡ true
 
 -- the outcome of a pending update: the code and the serials of its result, or SERVFAIL and no serials where it was judged in a version older than the last
 -- that was published when it was submitted
-abbrev pub IsToldAt : Place → UpdateResult → UpdateOutcome → Type 0
+abbrev pub IsToldAt : ReplyPlace → UpdateResult → UpdateOutcome → Type 0
 IsToldAt place done reported =
     ((place.number ≤ done.least) × (reported.code ≡ done.code) × (reported.serials ≡ done.serials)) ⊎ ((done.least < place.number) × (reported.code ≡ ServFail) × (reported.serials ≡ None))
 
 -- the octets of the reply to a pending update: its heading with the code of its result, or with SERVFAIL where it was judged in a version older than the last
 -- that was published when it was submitted
-abbrev pub IsWritten : Peer → Place → UpdateResult → List ℕ → Type 0
+abbrev pub IsWritten : Peer → ReplyPlace → UpdateResult → List ℕ → Type 0
 IsWritten peer place done octets =
     ((place.number ≤ done.least) × (octets ≡ fit (coded (heading_of_update done.asked.update) done.code) (limit_of peer.transport None)))
     ⊎ ((done.least < place.number) × (octets ≡ fit (coded (heading_of_update done.asked.update) ServFail) (limit_of peer.transport None)))

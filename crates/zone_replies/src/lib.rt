@@ -9,6 +9,7 @@ mod connection_handler;
 mod pending_updates;
 mod transfer;
 mod transfer_reply;
+mod update_replies;
 
 pub use connection_handler::ConnectionHandler;
 pub use transfer::Transfer;

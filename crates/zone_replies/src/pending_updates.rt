@@ -14,7 +14,9 @@ use std::mem;
 use std::net::SocketAddr;
 use std::snapshot::Snapshot;
 use std::sync::Wait;
-use zone_server::{Fetched, Poll, Server, ServerName, UpdateOutcome, UpdateResult, WaitingTicket};
+use zone_server::{
+    Poll, Server, ServerName, TicketPoll, UpdateOutcome, UpdateResult, WaitingTicket,
+};
 
 /// The pending updates of a connection. They wait together: each was submitted while one before it was pending. Their tickets can't be dropped, so
 /// neither can they.
@@ -111,8 +113,8 @@ impl<N: ServerName> PendingUpdate<N> {
         } = self;
         let (_, fetched) = server.fetch(rt, reader, ticket);
         match fetched {
-            Fetched::Unknown => (Poll::Unknown, after_first(from, more, number, known)),
-            Fetched::Pending(ticket) => {
+            TicketPoll::Unknown => (Poll::Unknown, after_first(from, more, number, known)),
+            TicketPoll::Pending(ticket) => {
                 let all = PendingUpdate {
                     from,
                     ticket,
@@ -122,14 +124,14 @@ impl<N: ServerName> PendingUpdate<N> {
                 };
                 (Poll::Pending, Some(all))
             }
-            Fetched::Ready(done) => (Poll::Ready(done), after_first(from, more, number, known)),
+            TicketPoll::Ready(done) => (Poll::Ready(done), after_first(from, more, number, known)),
         }
     }
 }
 
 /// Where the reply to a pending update will be.
 #[derive(Clone, Copy)]
-pub(crate) struct Place {
+pub(crate) struct ReplyPlace {
     /// The address of its connection's peer.
     pub from: SocketAddr,
     /// The number of the last version that was published when the first of those that wait together was submitted.
@@ -138,7 +140,7 @@ pub(crate) struct Place {
 
 /// The outcome of a pending update: that of its result, or SERVFAIL where it was judged in a version older than the last that was published when the
 /// first of those that wait together was submitted, which never happens.
-pub(crate) fn outcome_at(place: Place, done: &UpdateResult) -> UpdateOutcome
+pub(crate) fn outcome_at(place: ReplyPlace, done: &UpdateResult) -> UpdateOutcome
     ensures { IsToldAt place done.now result }
 {
     if place.number <= done.least {
@@ -173,11 +175,11 @@ impl<N: Naming> PendingUpdates<N> {
     }
 
     /// Where the reply to the first pending update under a key will be. None where no update is pending.
-    pub fn at(&self, key: usize) -> Option<Place>
+    pub fn at(&self, key: usize) -> Option<ReplyPlace>
         ensures { result ≡ place_in self.now key }
     {
         match self.entries.get(key)? {
-            Some(taken) => Some(Place {
+            Some(taken) => Some(ReplyPlace {
                 from: taken.from,
                 number: taken.number,
             }),
@@ -264,7 +266,7 @@ impl<N: ServerName> PendingUpdates<N> {
         reader: &mut VersionReader<N>,
         key: usize,
     ) -> Poll
-        requires some { (place : Place) × (place_in self.old key ≡ Some place) }
+        requires some { (place : ReplyPlace) × (place_in self.old key ≡ Some place) }
         ensures met { (number : ℕ) × MeetsAt Z.zone reader.old reader.new number }
         ensures fetched { IsFetched Z.zone reader.new.seen result }
         ensures rest { self.new ≡ slice_set self.old key (left_in result (slice_get self.old key)) }

@@ -19,9 +19,9 @@ use Rattle.requests.specs.Served.{Learned, Grows}
 use Rattle.zone_server.specs.Known.{learned_by, HasMet}
 use Rattle.zone_server.specs.Replied.{IsReplied}
 use Rattle.zone_server.specs.declared.submit.Submitted.{Submitted}
-use Rattle.zone_server.specs.declared.submit.Submitted.TheVariants.{Replied as AtOnce, Waits as IsPut}
+use Rattle.zone_server.specs.declared.submit.Submitted.TheVariants.{Replied as AtOnce, Pending as IsPut}
 use Rattle.zone_server.specs.declared.submit.DatagramSubmitted.{DatagramSubmitted}
-use Rattle.zone_server.specs.declared.submit.DatagramSubmitted.TheVariants.{Replied as AtOnceByDatagram, Waits as IsPutByDatagram}
+use Rattle.zone_server.specs.declared.submit.DatagramSubmitted.TheVariants.{Replied as AtOnceByDatagram, Pending as IsPutByDatagram}
 use Rattle.zone_server.specs.declared.answer.UpdateOutcome.{UpdateOutcome}
 use Rattle.zone_server.specs.Updated.{IsToldUnread}
 

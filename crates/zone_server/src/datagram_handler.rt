@@ -15,7 +15,7 @@ ghost use Rattle.requests.specs.Served.{Grows};
 use crate::answer::serve_update;
 use crate::local_updates::LocalUpdates;
 use crate::notifying::{NextTurn, Notifying};
-use crate::open_ticket::{Fetched, WaitingTicket};
+use crate::open_ticket::{TicketPoll, WaitingTicket};
 use crate::request_answer::{Answer, answer_request};
 use crate::right::ServerName;
 use crate::server::Server;
@@ -152,7 +152,7 @@ impl<'a, 's, Z: FirstZone, N: ServerName, L: ServiceLog> DatagramHandler<'a, 's,
                 tell_update(rt, self.log, peer, from, outcome);
                 Some(len)
             }
-            DatagramSubmitted::Waits(_put) => None,
+            DatagramSubmitted::Pending(_put) => None,
         }
     }
 
@@ -346,7 +346,7 @@ impl<'a, 's, Z: FirstZone, N: ServerName, L: ServiceLog> LocalUpdates
         submit_own(rt, self.server, &mut self.reader, sender, request, is_held)
     }
 
-    fn result_at<R: Wait>(&mut self, rt: &R, ticket: WaitingTicket) -> Fetched {
+    fn result_at<R: Wait>(&mut self, rt: &R, ticket: WaitingTicket) -> TicketPoll {
         let (_, fetched) = self.server.fetch(rt, &mut self.reader, ticket);
         fetched
     }

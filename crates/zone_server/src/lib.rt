@@ -41,7 +41,7 @@ pub use answer::{Now, UpdateOutcome, answer_now, serve_update};
 pub use datagram_handler::DatagramHandler;
 pub use local_updates::LocalUpdates;
 pub use notifying::{NextTurn, Notifying};
-pub use open_ticket::{Fetched, OpenTicket, WaitingTicket};
+pub use open_ticket::{OpenTicket, TicketPoll, WaitingTicket};
 pub use outgoing::Outgoing;
 pub use pending_replies::AtTicket;
 pub use reply_sender::ReplySender;

@@ -3,7 +3,7 @@ ghost use Rattle.std.specs.Prelude.{◌≡◌, true, IfOk};
 ghost use Rattle.update_batches.specs.Engine.{IsLast};
 ghost use Rattle.requests.specs.Served.{Grows};
 
-use crate::open_ticket::{Fetched, WaitingTicket};
+use crate::open_ticket::{TicketPoll, WaitingTicket};
 use dns_engine::SharedVersion;
 use requests::Handler;
 use snapshot_cell::Spent;
@@ -38,7 +38,7 @@ pub trait LocalUpdates: Handler {
         ensures grows { Grows (Self.seen self.new) (Self.seen self.old) };
 
     /// The result at a ticket, if it is there yet. If it is not, the ticket comes back.
-    fn result_at<R: Wait>(&mut self, rt: &R, ticket: WaitingTicket) -> Fetched
+    fn result_at<R: Wait>(&mut self, rt: &R, ticket: WaitingTicket) -> TicketPoll
         ensures grows { Grows (Self.seen self.new) (Self.seen self.old) };
 
     /// Abandons a ticket: a result that is still to come is dropped.

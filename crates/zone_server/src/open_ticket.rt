@@ -50,7 +50,7 @@ pub struct WaitingTicket {
 }
 
 /// What a waiting ticket gives when its result is fetched.
-pub enum Fetched {
+pub enum TicketPoll {
     /// No reply is pending at it.
     Unknown,
     /// The result is not there yet: the ticket waits on.
@@ -76,14 +76,14 @@ impl WaitingTicket {
     }
 
     /// What the state gave when it was polled, with the ticket if that waits on.
-    pub(crate) fn fetched(self, poll: Poll) -> Fetched
+    pub(crate) fn fetched(self, poll: Poll) -> TicketPoll
         ensures { result ≡ fetched_by self poll }
     {
         let WaitingTicket { ticket } = self;
         match poll {
-            Poll::Unknown => Fetched::Unknown,
-            Poll::Pending => Fetched::Pending(WaitingTicket { ticket }),
-            Poll::Ready(done) => Fetched::Ready(done),
+            Poll::Unknown => TicketPoll::Unknown,
+            Poll::Pending => TicketPoll::Pending(WaitingTicket { ticket }),
+            Poll::Ready(done) => TicketPoll::Ready(done),
         }
     }
 }

@@ -8,7 +8,7 @@ ghost use Rattle.zone_server.specs.declared.request_answer.Answer.TheVariants as
 
 use dns_engine::{FirstZone, VersionCell, VersionOwner, VersionReader};
 use dns_message::{Query, Said, is_update, parse_into};
-use serve_core::{Heading, Peer, is_permitted, respond_by, write_code};
+use serve_core::{Heading, Peer, is_permitted, respond_by, write_code_by};
 use snapshot_cell::Naming;
 use wire_names::NameWriter;
 
@@ -52,11 +52,11 @@ pub fn answer_request<'c, Z: FirstZone, N: Naming>(
         Said::Silent => Answer::Silent,
         Said::Fault(head, code) => {
             let heading = Heading::header_alone(head);
-            Answer::Bytes(write_code(&heading, code, peer.transport, out))
+            Answer::Bytes(write_code_by(names, &heading, code, peer.transport, out))
         }
         Said::BadOpt(head, code, dnssec_ok) => {
             let heading = Heading::of_bad(head, &query.question, dnssec_ok);
-            Answer::Bytes(write_code(&heading, code, peer.transport, out))
+            Answer::Bytes(write_code_by(names, &heading, code, peer.transport, out))
         }
         Said::Query => {
             let Ok(strong) = cell.load(reader) else {

@@ -17,7 +17,7 @@ ghost use Rattle.dns_engine.specs.Held.{IsLatest};
 ghost use Rattle.dns_engine.specs.declared.fault.EngineFault.{EngineFault as Fault};
 ghost use Rattle.transfer_core.specs.declared.kept.TheConstants.{KEPT};
 
-use crate::open_ticket::{Fetched, OpenTicket, WaitingTicket};
+use crate::open_ticket::{OpenTicket, TicketPoll, WaitingTicket};
 use crate::outgoing::Outgoing;
 use crate::right::{PublishRight, ServerLedgers, ServerName};
 use crate::server_state::{BatchStart, ServerState};
@@ -190,7 +190,7 @@ impl<'a, Z: FirstZone, N: ServerName> Server<'a, Z, N> {
         rt: &R,
         reader: &mut VersionReader<N>,
         ticket: WaitingTicket,
-    ) -> (u64, Fetched)
+    ) -> (u64, TicketPoll)
         ensures met { MeetsAt Z.zone reader.old reader.new result.0 }
         ensures fetched { IsFetchedBy Z.zone reader.new.seen ticket result.1 }
     {

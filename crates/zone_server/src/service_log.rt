@@ -80,7 +80,7 @@ pub enum Event {
         /// The reason why it ended.
         end: JobEnd,
     },
-    /// All threads of all workers are running.
+    /// All threads of all workers are running. It has no text: a log has lines of its own for this.
     Serving,
     /// Connections of a worker have failed, or were turned away, since this was last logged.
     Lost {
@@ -245,7 +245,7 @@ impl Display for Event {
                 write!(f, "worker {worker} ({carrier}) exited: ")?;
                 write_end(f, *end)
             }
-            Event::Serving => f.write_str("all workers are running"),
+            Event::Serving => Ok(()),
             Event::Lost { worker, losses } => {
                 write!(f, "worker {worker} (TCP)")?;
                 write_losses(f, *losses)

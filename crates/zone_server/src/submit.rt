@@ -38,7 +38,7 @@ pub enum Submitted {
     /// It has a reply at once, of so many bytes and with this outcome.
     Replied(usize, UpdateOutcome),
     /// It waits in the queue, and its result will be at this ticket. This is the number of the version published last.
-    Waits {
+    Pending {
         /// The ticket.
         ticket: WaitingTicket,
         /// The number.
@@ -54,7 +54,7 @@ pub enum DatagramSubmitted {
     /// It has a reply at once, of so many bytes and with this outcome.
     Replied(usize, UpdateOutcome),
     /// It waits in the queue, of which this is the receipt: the update thread sends the reply.
-    Waits(Put),
+    Pending(Put),
 }
 
 /// An update that was read, with its bytes, of a peer that may update. None if there is no memory for them.
@@ -162,7 +162,7 @@ pub fn submit_stream<R: Wait, Z: FirstZone, N: ServerName>(
             ticket,
         };
         if let Some(put) = put_update(rt, alloc, sender, update, request, reply_to) {
-            return Submitted::Waits {
+            return Submitted::Pending {
                 ticket: opened.waits(&put),
                 number,
                 put,
@@ -255,7 +255,7 @@ pub fn submit_datagram<R: Wait, Z: FirstZone, N: ServerName>(
     let worker = sender.worker;
     let reply_to = ReplyTo::Datagram { worker, to, tsig };
     if let Some(put) = put_update(rt, alloc, sender, update, request, reply_to) {
-        return DatagramSubmitted::Waits(put);
+        return DatagramSubmitted::Pending(put);
     }
     server.meet(rt, reader);
     let (len, outcome) = refuse(&heading, peer, out);

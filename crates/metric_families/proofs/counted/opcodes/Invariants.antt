@@ -3,7 +3,7 @@ use Rattle.counters.specs.declared.counter.Counter.TheVariants.{Opcode}
 use Rattle.counters.specs.Counters.{number_of}
 use Rattle.counters.specs.Opcodes.{opcode_word}
 use Rattle.metrics_text.specs.Families.{with_samples}
-use Rattle.metric_families.specs.Told.{each_labelled}
+use Rattle.metric_families.specs.Families.{each_labelled}
 use Rattle.metric_families.specs.Counted.{opcodes}
 use Rattle.metric_families.proofs.counted.opcodes.Given as goal
 

@@ -1,6 +1,6 @@
 use Rattle.std.proofs.Common.{ap, ◌∙◌, codes, rules}
 use Rattle.metrics_text.specs.declared.family.Kind.TheVariants.{Counter as counter, Gauge as gauge}
-use Rattle.metric_families.specs.Told.{plain_family}
+use Rattle.metric_families.specs.Families.{plain_family}
 use Rattle.metric_families.proofs.PutLemmas.{first, after}
 use Rattle.metric_families.proofs.counted.put_connections.Goals as goal
 

@@ -1,6 +1,6 @@
 use Rattle.std.proofs.Common.{ap, ◌∙◌, codes}
 use Rattle.metrics_text.specs.declared.family.Kind.TheVariants.{Counter as counter}
-use Rattle.metric_families.specs.Told.{plain_family}
+use Rattle.metric_families.specs.Families.{plain_family}
 use Rattle.metric_families.proofs.PutLemmas.{first, after}
 use Rattle.metric_families.proofs.counted.put_requests.Goals as goal
 

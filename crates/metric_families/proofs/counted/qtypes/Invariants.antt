@@ -3,7 +3,7 @@ use Rattle.counters.specs.declared.counter.Counter.TheVariants.{Question}
 use Rattle.counters.specs.Counters.{number_of}
 use Rattle.counters.specs.Qtypes.{qtype_word}
 use Rattle.metrics_text.specs.Families.{with_samples}
-use Rattle.metric_families.specs.Told.{each_labelled}
+use Rattle.metric_families.specs.Families.{each_labelled}
 use Rattle.metric_families.specs.Counted.{qtypes}
 use Rattle.metric_families.proofs.counted.qtypes.Given as goal
 

@@ -3,7 +3,7 @@ use Rattle.counters.specs.declared.counter.Counter.TheVariants.{Update}
 use Rattle.counters.specs.Counters.{number_of}
 use Rattle.counters.specs.Rcodes.{rcode_word}
 use Rattle.metrics_text.specs.Families.{with_samples}
-use Rattle.metric_families.specs.Told.{each_labelled}
+use Rattle.metric_families.specs.Families.{each_labelled}
 use Rattle.metric_families.specs.Counted.{update_rcodes}
 use Rattle.metric_families.proofs.counted.update_rcodes.Given as goal
 

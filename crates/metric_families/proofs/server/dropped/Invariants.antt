@@ -1,7 +1,7 @@
 use Rattle.std.proofs.Common.{◌≡◌, codes, drop}
 use Rattle.metrics_text.specs.Families.{with_samples}
 use Rattle.metric_families.specs.Known.{drops_known}
-use Rattle.metric_families.specs.Told.{each_labelled}
+use Rattle.metric_families.specs.Families.{each_labelled}
 use Rattle.metric_families.proofs.server.dropped.Given as goal
 
 -- what is there, with what is left, is all

@@ -1,7 +1,7 @@
 -- What is known on each connection grows as it does by the handler that is counted.
 use Rattle.std.proofs.Common.{sym, subst}
 use Rattle.zone_tree.specs.Version.{Version}
-use Rattle.tcp_connections.specs.Asked.{EachGrows}
+use Rattle.tcp_connections.specs.Requests.{EachGrows}
 use Rattle.serve_workers.proofs.threads.serve_counting.Goals as goal
 
 pub returns-clause-grows : goal.returns-clause-grows

@@ -4,9 +4,9 @@ use Rattle.zone_tree.specs.Zone.{IsZone}
 use Rattle.store_recovery.specs.Start.{IsStarted}
 use Rattle.store_server.specs.Private.{IsNotAgain}
 use Rattle.store_server.specs.Started.{IsNotTaken}
-use Rattle.store_server.specs.Taken.{IsTakenJournal}
-use Rattle.store_server.proofs.TakenLemmas.{again_taken}
-use Rattle.store_server.proofs.TakenStartLemmas.{one_apex, starts_again, leads_there}
+use Rattle.store_server.specs.TakeZone.{IsTakenJournal}
+use Rattle.store_server.proofs.TakeZoneLemmas.{again_taken}
+use Rattle.store_server.proofs.TakeZoneStartLemmas.{one_apex, starts_again, leads_there}
 use Rattle.store_server.proofs.start.take_text.Goals as goal
 
 pub returns-in_err-later-clause-refused : goal.returns-in_err-later-clause-refused

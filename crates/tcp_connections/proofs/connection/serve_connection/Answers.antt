@@ -4,7 +4,7 @@ use Rattle.requests.specs.Allowed.{IsReplyFrom}
 use Rattle.serve_core.specs.declared.transport.Transport.TheVariants.{Tcp}
 use Rattle.tcp_connections.specs.Going.{Goes, Stops}
 use Rattle.tcp_connections.specs.Kept.{told_by}
-use Rattle.tcp_connections.proofs.AskedLemmas.{each_more}
+use Rattle.tcp_connections.proofs.RequestLemmas.{each_more}
 use Rattle.tcp_connections.proofs.OwnLemmas.{ok_follows, err_follows, goes_as, stops_as}
 use Rattle.tcp_connections.proofs.connection.serve_connection.Goals as goal
 

@@ -1,5 +1,5 @@
 -- The peer is set, and nothing that was known is forgotten.
-use Rattle.tcp_connections.proofs.AskedLemmas.{each_as}
+use Rattle.tcp_connections.proofs.RequestLemmas.{each_as}
 use Rattle.tcp_connections.proofs.handler.prepare_from.Goals as goal
 
 pub returns-clause-grows : goal.returns-clause-grows

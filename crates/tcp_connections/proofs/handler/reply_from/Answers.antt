@@ -2,7 +2,7 @@
 use Rattle.std.proofs.Common.{ap}
 use Rattle.serve_core.specs.declared.transport.Transport.TheVariants.{Tcp}
 use Rattle.tcp_connections.specs.Kept.{messages_of}
-use Rattle.tcp_connections.proofs.AskedLemmas.{each_as}
+use Rattle.tcp_connections.proofs.RequestLemmas.{each_as}
 use Rattle.tcp_connections.proofs.ReplyFromLemmas.{reply_as, later_as}
 use Rattle.tcp_connections.proofs.handler.reply_from.Goals as goal
 

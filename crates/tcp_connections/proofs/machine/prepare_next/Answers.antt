@@ -1,6 +1,6 @@
 -- One request after another.
 use Rattle.std.proofs.Common.{refl, ◌∙◌}
-use Rattle.tcp_connections.proofs.AskedLemmas.{each_itself, each_more}
+use Rattle.tcp_connections.proofs.RequestLemmas.{each_itself, each_more}
 use Rattle.tcp_connections.proofs.machine.prepare_next.Goals as goal
 
 pub loop-between-init : goal.loop-between-init

@@ -1,6 +1,6 @@
 -- Nothing that was known is forgotten, on the same connection.
 use Rattle.std.proofs.Common.{◌≡◌}
-use Rattle.tcp_connections.specs.Asked.{EachGrows}
+use Rattle.tcp_connections.specs.Requests.{EachGrows}
 use Rattle.tcp_connections.proofs.machine.prepare_next.Given as goal
 
 abbrev pub invariant-loop-between : goal.invariant-loop-between

@@ -5,7 +5,7 @@ use Rattle.serve_core.specs.declared.transport.Transport.TheVariants.{Tcp}
 use Rattle.dns_message.specs.Frame.{frame_in}
 use Rattle.tcp_connections.specs.Exchange.{Exchange}
 use Rattle.tcp_connections.specs.Kept.{Kept, due}
-use Rattle.tcp_connections.proofs.AskedLemmas.{each_itself, each_more, waits_as}
+use Rattle.tcp_connections.proofs.RequestLemmas.{each_itself, each_more, waits_as}
 use Rattle.tcp_connections.proofs.GoingLemmas.{keeps_itself, keeps_more, keeps_turn, keeps_same}
 use Rattle.tcp_connections.proofs.serve.answer_some.Goals as goal
 

@@ -4,7 +4,7 @@ use Rattle.requests.specs.Allowed.{IsReplyFrom, IsLaterFrom}
 use Rattle.serve_core.specs.declared.transport.Transport.TheVariants.{Tcp}
 use Rattle.tcp_connections.specs.Kept.{told_by}
 use Rattle.tcp_connections.specs.StreamOctets.{EndCounted}
-use Rattle.tcp_connections.proofs.AskedLemmas.{each_itself, each_more, waits_as}
+use Rattle.tcp_connections.proofs.RequestLemmas.{each_itself, each_more, waits_as}
 use Rattle.tcp_connections.proofs.StreamOctetLemmas.{writes_itself, writes_more, ends_lacking, counted_lacking}
 use Rattle.tcp_connections.proofs.GoingLemmas.{goes_itself, goes_more, stops_more}
 use Rattle.tcp_connections.proofs.OwnLemmas.{goes_turned, stops_turned}

@@ -7,7 +7,7 @@ use Rattle.requests.specs.Allowed.{IsReplyFrom, IsLaterFrom}
 use Rattle.serve_core.specs.declared.transport.Transport.TheVariants.{Tcp}
 use Rattle.requests.proofs.TurnLemmas.{begins_itself, begins_more}
 use Rattle.tcp_connections.proofs.TurnLemmas.{extends_itself}
-use Rattle.tcp_connections.proofs.AskedLemmas.{each_itself, each_more}
+use Rattle.tcp_connections.proofs.RequestLemmas.{each_itself, each_more}
 use Rattle.slab.specs.Slab.{get, slab_len}
 use Rattle.tcp_connections.specs.Connections.{HasStopped, seen_of}
 use Rattle.tcp_connections.proofs.LenLemmas.{counted_none, counted_then}

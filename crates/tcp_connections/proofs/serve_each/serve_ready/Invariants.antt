@@ -5,7 +5,7 @@ use Rattle.std.specs.Vec.{vec_len, vec_capacity}
 use Rattle.requests.specs.Allowed.{IsReplyFrom, IsLaterFrom}
 use Rattle.serve_core.specs.declared.transport.Transport.TheVariants.{Tcp}
 use Rattle.requests.specs.Served.{BeginsWith}
-use Rattle.tcp_connections.specs.Asked.{EachGrows}
+use Rattle.tcp_connections.specs.Requests.{EachGrows}
 use Rattle.slab.specs.Slab.{get, slab_len}
 use Rattle.tcp_connections.specs.Ends.{AreCounted}
 use Rattle.tcp_connections.specs.Connections.{OwnServed, HasStopped, seen_of}

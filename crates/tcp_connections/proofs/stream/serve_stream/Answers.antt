@@ -3,7 +3,7 @@ use Rattle.std.proofs.Common.{refl, ◌∙◌}
 use Rattle.requests.specs.Allowed.{IsReplyFrom}
 use Rattle.serve_core.specs.declared.transport.Transport.TheVariants.{Tcp}
 use Rattle.tcp_connections.specs.Kept.{told_by}
-use Rattle.tcp_connections.proofs.AskedLemmas.{each_itself, each_more}
+use Rattle.tcp_connections.proofs.RequestLemmas.{each_itself, each_more}
 use Rattle.tcp_connections.proofs.StreamOctetLemmas.{stays_fresh, writes_itself, writes_more, ends_lacking}
 use Rattle.tcp_connections.proofs.GoingLemmas.{goes_more, goes_stays, stops_more, stream_ends}
 use Rattle.tcp_connections.proofs.OwnLemmas.{goes_turned, stops_turned}

@@ -2,7 +2,7 @@
 use Rattle.std.proofs.Common.{◌≡◌}
 use Rattle.requests.specs.Allowed.{IsReplyFrom}
 use Rattle.serve_core.specs.declared.transport.Transport.TheVariants.{Tcp}
-use Rattle.tcp_connections.specs.Asked.{EachGrows}
+use Rattle.tcp_connections.specs.Requests.{EachGrows}
 use Rattle.tcp_connections.specs.Kept.{told_by}
 use Rattle.tcp_connections.specs.StreamOctets.{Writes}
 use Rattle.tcp_connections.specs.Going.{Goes}

@@ -21,19 +21,19 @@ use Rattle.zone_server.proofs.request_answer.answer_request.Goals as goal
 pub returns-in-Fault : goal.returns-in-Fault
 returns-in-Fault g c =
     let other : is_update c.args.request.now ≡ false = sym c.is_update.ensures ∙ c.if-is_update.false in
-    let is : IsNow g.Z.FirstZone.zone c.args.peer c.args.request.now c.args.reader.now c.args.reader.now c.write_code.new.out (now.Bytes c.write_code.result) =
-    code_now g.Z.FirstZone.zone c.args.peer c.args.reader.now c.args.request.now c.write_code.new.out (Fault c.in-Fault.head c.in-Fault.code) _ _ c.in-Fault.code c.write_code.result other (sym c.parse_into.ensures ∙ ap (said_in c.parse_into.new.query) c.in-Fault.is) tt c.write_code.ensures.len refl c.header_alone-heading.ensures refl
-    (λ zone. tt) (λ version. refl) c.write_code.ensures.octets in
-    record { answer = is; query = subst (λ (p : Parsed). IsQueryOf p c.parse_into.new.query) (sym (sym c.parse_into.ensures ∙ ap (said_in c.parse_into.new.query) c.in-Fault.is)) tt; spent = answer_spent g.Z.FirstZone.zone c.args.peer c.args.request.now c.args.reader.now c.args.reader.now c.parse_into.new.query c.write_code.new.out (Bytes c.write_code.result) is }
+    let is : IsNow g.Z.FirstZone.zone c.args.peer c.args.request.now c.args.reader.now c.args.reader.now c.write_code_by.new.out (now.Bytes c.write_code_by.result) =
+    code_now g.Z.FirstZone.zone c.args.peer c.args.reader.now c.args.request.now c.write_code_by.new.out (Fault c.in-Fault.head c.in-Fault.code) _ _ c.in-Fault.code c.write_code_by.result other (sym c.parse_into.ensures ∙ ap (said_in c.parse_into.new.query) c.in-Fault.is) tt c.write_code_by.ensures.len refl c.header_alone-heading.ensures refl
+    (λ zone. tt) (λ version. refl) c.write_code_by.ensures.octets in
+    record { answer = is; query = subst (λ (p : Parsed). IsQueryOf p c.parse_into.new.query) (sym (sym c.parse_into.ensures ∙ ap (said_in c.parse_into.new.query) c.in-Fault.is)) tt; spent = answer_spent g.Z.FirstZone.zone c.args.peer c.args.request.now c.args.reader.now c.args.reader.now c.parse_into.new.query c.write_code_by.new.out (Bytes c.write_code_by.result) is }
 
 pub returns-in-BadOpt : goal.returns-in-BadOpt
 returns-in-BadOpt g c =
     let other : is_update c.args.request.now ≡ false = sym c.is_update.ensures ∙ c.if-is_update.false in
     let said = BadOpt c.in-BadOpt.head c.parse_into.new.query.question c.in-BadOpt.code c.in-BadOpt.dnssec_ok in
-    let is : IsNow g.Z.FirstZone.zone c.args.peer c.args.request.now c.args.reader.now c.args.reader.now c.write_code-in-BadOpt.new.out (now.Bytes c.write_code-in-BadOpt.result) =
-    code_now g.Z.FirstZone.zone c.args.peer c.args.reader.now c.args.request.now c.write_code-in-BadOpt.new.out said _ _ c.in-BadOpt.code c.write_code-in-BadOpt.result other (sym c.parse_into.ensures ∙ ap (said_in c.parse_into.new.query) c.in-BadOpt.is) tt c.write_code-in-BadOpt.ensures.len refl c.of_bad-heading.ensures refl
-    (λ zone. tt) (λ version. refl) c.write_code-in-BadOpt.ensures.octets in
-    record { answer = is; query = subst (λ (p : Parsed). IsQueryOf p c.parse_into.new.query) (sym (sym c.parse_into.ensures ∙ ap (said_in c.parse_into.new.query) c.in-BadOpt.is)) refl; spent = answer_spent g.Z.FirstZone.zone c.args.peer c.args.request.now c.args.reader.now c.args.reader.now c.parse_into.new.query c.write_code-in-BadOpt.new.out (Bytes c.write_code-in-BadOpt.result) is }
+    let is : IsNow g.Z.FirstZone.zone c.args.peer c.args.request.now c.args.reader.now c.args.reader.now c.write_code_by-in-BadOpt.new.out (now.Bytes c.write_code_by-in-BadOpt.result) =
+    code_now g.Z.FirstZone.zone c.args.peer c.args.reader.now c.args.request.now c.write_code_by-in-BadOpt.new.out said _ _ c.in-BadOpt.code c.write_code_by-in-BadOpt.result other (sym c.parse_into.ensures ∙ ap (said_in c.parse_into.new.query) c.in-BadOpt.is) tt c.write_code_by-in-BadOpt.ensures.len refl c.of_bad-heading.ensures refl
+    (λ zone. tt) (λ version. refl) c.write_code_by-in-BadOpt.ensures.octets in
+    record { answer = is; query = subst (λ (p : Parsed). IsQueryOf p c.parse_into.new.query) (sym (sym c.parse_into.ensures ∙ ap (said_in c.parse_into.new.query) c.in-BadOpt.is)) refl; spent = answer_spent g.Z.FirstZone.zone c.args.peer c.args.request.now c.args.reader.now c.args.reader.now c.parse_into.new.query c.write_code_by-in-BadOpt.new.out (Bytes c.write_code_by-in-BadOpt.result) is }
 
 pub returns-in_default : goal.returns-in_default
 returns-in_default g c =

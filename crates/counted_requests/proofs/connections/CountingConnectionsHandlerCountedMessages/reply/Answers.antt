@@ -1,7 +1,7 @@
 -- What is known grows as it does by the other handler.
 use Rattle.std.proofs.Common.{sym, subst}
 use Rattle.zone_tree.specs.Version.{Version}
-use Rattle.tcp_connections.specs.Asked.{EachGrows}
+use Rattle.tcp_connections.specs.Requests.{EachGrows}
 use Rattle.counted_requests.proofs.connections.CountingConnectionsHandlerCountedMessages.reply.Goals as goal
 
 pub returns-in-Ok-clause-grows : goal.returns-in-Ok-clause-grows

@@ -15,7 +15,7 @@ returns-clause-stored g c =
     let after : CompactedState IoError = record { writer = c.append.new.self; wanted = wanted } in
     let some : 0 < length updates = some_there updates updates refl c.if-is_empty.ensures in
     let on = ap is_stuck (sym c.log.ensures) ∙ (sym c.is_stuck.ensures ∙ c.if-is_stuck.false) in
-    on_ok c.append.result c.append.ensures.on_disk c.append.ensures.trail c.append.ensures.compaction c.append.ensures.marked
+    on_ok c.append.result c.append.ensures.on_disk c.append.ensures.recent c.append.ensures.compaction c.append.ensures.marked
     (λ stored found way marks.
     has_appended updates c.args.self.now after
     (appended updates c.args.self.now c.self.inside.writer c.append.new.self wanted c.self.view_is on some stored found way marks c.append.ensures.head))
@@ -25,10 +25,10 @@ returns-clause-kept g c =
     let wanted = g.T.TextWriter.wanted c.self.inside.texts in
     let after : CompactedState IoError = record { writer = c.append.new.self; wanted = wanted } in
     let on = ap is_stuck (sym c.log.ensures) ∙ (sym c.is_stuck.ensures ∙ c.if-is_stuck.false) in
-    on_err c.append.result c.append.ensures.on_disk_still c.append.ensures.trail_still c.append.ensures.compaction_still
-    (λ still trail way.
+    on_err c.append.result c.append.ensures.on_disk_still c.append.ensures.recent_still c.append.ensures.compaction_still
+    (λ still recent way.
     has_kept c.args.self.now after
-    (not_appended c.args.self.now c.self.inside.writer c.append.new.self wanted c.self.view_is on still trail way c.append.ensures.head))
+    (not_appended c.args.self.now c.self.inside.writer c.append.new.self wanted c.self.view_is on still recent way c.append.ensures.head))
 
 pub returns-then-is_empty-clause-crash : goal.returns-then-is_empty-clause-crash
 returns-then-is_empty-clause-crash g c = leaves_same c.args.self.now c.args.self.now refl

@@ -1,7 +1,7 @@
 use Rattle.std.proofs.Common.{◌++◌, ◌∷◌, [], List, append_assoc, sym, ap, ◌∙◌}
 use Rattle.std.specs.Vec.Iter.{into_iter_items}
 use Rattle.update_batches.specs.declared.version_update.VersionUpdate.{VersionUpdate}
-use Rattle.store_compaction.specs.RecentUpdates.{TrailState, pushed}
+use Rattle.store_compaction.specs.RecentUpdates.{RecentState, pushed}
 use Rattle.store_compaction.proofs.RecentLemmas.{followed_push}
 use Rattle.store_compaction.proofs.recent_updates.RecentUpdates.follow.Goals as goal
 
@@ -10,5 +10,5 @@ loop-step-preserved c =
     let yielded = c.loop-step.yielded in
     record {
       left = append_assoc yielded (c.in-Some.step ∷ []) (into_iter_items c.next.new.self) ∙ ap (λ (l : List VersionUpdate). yielded ++ l) (sym c.in-Some.ensures.steps.0) ∙ c.loop-step.invariant.left;
-      trail = c.push.ensures ∙ (ap (λ (t : TrailState). pushed t c.in-Some.step) c.loop-step.invariant.trail ∙ sym (followed_push c.args.self.now yielded c.in-Some.step));
+      recent = c.push.ensures ∙ (ap (λ (t : RecentState). pushed t c.in-Some.step) c.loop-step.invariant.recent ∙ sym (followed_push c.args.self.now yielded c.in-Some.step));
     }

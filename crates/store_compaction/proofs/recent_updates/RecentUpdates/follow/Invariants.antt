@@ -6,5 +6,5 @@ use Rattle.store_compaction.proofs.recent_updates.RecentUpdates.follow.Given as 
 abbrev pub invariant-loop-step : goal.invariant-loop-step
 invariant-loop-step l = record {
   left : l.yielded ++ into_iter_items l.step-iterator ≡ l.fn.steps.items;
-  trail : l.self ≡ followed l.fn.self l.yielded;
+  recent : l.self ≡ followed l.fn.self l.yielded;
 }

@@ -4,7 +4,7 @@ use Rattle.dns_message.specs.Frame.{frame_of}
 use Rattle.requests.specs.Allowed.{IsReplyFrom}
 use Rattle.serve_core.specs.declared.transport.Transport.TheVariants.{Tcp}
 use Rattle.tcp_connections.specs.Kept.{Kept, due}
-use Rattle.tcp_connections.proofs.AskedLemmas.{each_more}
+use Rattle.tcp_connections.proofs.RequestLemmas.{each_more}
 use Rattle.tcp_connections.proofs.FrameLemmas.{turn_made}
 use Rattle.tcp_connections.proofs.machine.ConnectionState.answer.Goals as goal
 

@@ -2,7 +2,7 @@
 use Rattle.std.proofs.Common.{refl, sym, ◌∙◌, inl}
 use Rattle.requests.specs.Allowed.{IsReplyFrom, IsLaterFrom}
 use Rattle.serve_core.specs.declared.transport.Transport.TheVariants.{Tcp}
-use Rattle.tcp_connections.proofs.AskedLemmas.{each_itself}
+use Rattle.tcp_connections.proofs.RequestLemmas.{each_itself}
 use Rattle.tcp_loop.proofs.StepLemmas.{serves_none, turned_none, turned_whole, going_swept}
 use Rattle.tcp_loop.proofs.worker.EventLoop.poll_once.Goals as goal
 

@@ -1,6 +1,6 @@
 -- One turn more has been taken.
 use Rattle.std.proofs.Common.{refl, ◌∙◌, subst}
-use Rattle.tcp_connections.proofs.AskedLemmas.{each_itself, each_more}
+use Rattle.tcp_connections.proofs.RequestLemmas.{each_itself, each_more}
 use Rattle.requests.specs.Allowed.{IsReplyFrom}
 use Rattle.serve_core.specs.declared.transport.Transport.TheVariants.{Tcp}
 use Rattle.tcp_loop.specs.Steps.{Turned, unturned}

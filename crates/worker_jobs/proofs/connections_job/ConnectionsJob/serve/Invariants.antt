@@ -1,6 +1,6 @@
 -- Turns have been taken so far.
 use Rattle.std.proofs.Common.{◌≡◌}
-use Rattle.tcp_connections.specs.Asked.{EachGrows}
+use Rattle.tcp_connections.specs.Requests.{EachGrows}
 use Rattle.requests.specs.Allowed.{IsReplyFrom}
 use Rattle.serve_core.specs.declared.transport.Transport.TheVariants.{Tcp}
 use Rattle.tcp_loop.specs.Steps.{Turned}

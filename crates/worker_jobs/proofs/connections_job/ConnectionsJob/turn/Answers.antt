@@ -1,6 +1,6 @@
 -- A turn is taken, and what is counted and told of it leaves its connections.
 use Rattle.std.proofs.Common.{ℕ, subst, ◌∙◌}
-use Rattle.tcp_connections.specs.Asked.{EachGrows}
+use Rattle.tcp_connections.specs.Requests.{EachGrows}
 use Rattle.tcp_connections.specs.Served.{Knowledge}
 use Rattle.tcp_loop.specs.Steps.{unturned}
 use Rattle.zone_tree.specs.Version.{Version}

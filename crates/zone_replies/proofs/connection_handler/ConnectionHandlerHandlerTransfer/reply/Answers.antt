@@ -7,8 +7,8 @@ use Rattle.dns_message.specs.declared.query.Parsed.TheVariants.{Silent}
 use Rattle.zone_tree.specs.Version.{Version}
 use Rattle.snapshot_cell.specs.Tokens.{ReaderState}
 use Rattle.serve_core.specs.declared.peer.Peer.{Peer}
-use Rattle.tcp_connections.specs.Asked.{EachGrows}
-use Rattle.tcp_connections.proofs.AskedLemmas.{each_more}
+use Rattle.tcp_connections.specs.Requests.{EachGrows}
+use Rattle.tcp_connections.proofs.RequestLemmas.{each_more}
 use Rattle.tcp_connections.specs.Kept.{messages_of}
 use Rattle.tcp_connections.specs.declared.handler.Reply.{Reply}
 use Rattle.zone_replies.specs.declared.transfer.Transfer.{Transfer}

@@ -5,7 +5,7 @@ use Rattle.snapshot_cell.specs.Tokens.{ReaderState}
 use Rattle.dns_engine.specs.Held.{EngineState}
 use Rattle.zone_server.specs.Tickets.{IsFetchedBy}
 use Rattle.zone_server.specs.UpdateResult.{IsFetched}
-use Rattle.zone_server.specs.declared.open_ticket.Fetched.{Fetched}
+use Rattle.zone_server.specs.declared.open_ticket.TicketPoll.{TicketPoll}
 use Rattle.zone_server.proofs.TicketLemmas.{fetched_as}
 use Rattle.zone_server.proofs.server.Server.fetch.Goals as goal
 
@@ -19,5 +19,5 @@ returns g c =
     let reported = subst (λ (l : List Version). IsFetched first l c.fetch-poll.result) seen c.fetch-poll.ensures.reported in
     record {
       met = (c.deref_mut.result.now, met, ap (λ (s : EngineState). s.held.last.number) (sym same) ∙ sym c.number-number.ensures.number);
-      fetched = subst (λ (f : Fetched). IsFetchedBy first c.meet_last.new.reader.seen c.args.ticket f) (sym c.fetched.ensures) (fetched_as first c.meet_last.new.reader.seen c.args.ticket c.fetch-poll.result reported);
+      fetched = subst (λ (f : TicketPoll). IsFetchedBy first c.meet_last.new.reader.seen c.args.ticket f) (sym c.fetched.ensures) (fetched_as first c.meet_last.new.reader.seen c.args.ticket c.fetch-poll.result reported);
     }
