@@ -7,7 +7,7 @@ use Rattle.zone_server.specs.Known.{learned_by}
 use Rattle.zone_replies.specs.State.{HandlerState}
 use Rattle.zone_replies.specs.PendingUpdates.{known_at, place_in}
 use Rattle.zone_replies.proofs.PendingLemmas.{gone_grows, gone_none}
-use Rattle.zone_replies.proofs.update_replies.ConnectionHandler.abandon.Goals as goal
+use Rattle.zone_replies.proofs.connection_handler.ConnectionHandler.abandon.Goals as goal
 
 pub returns-clause-grows : goal.returns-clause-grows
 returns-clause-grows g c =

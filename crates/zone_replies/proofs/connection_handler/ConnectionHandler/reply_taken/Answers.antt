@@ -14,8 +14,8 @@ use Rattle.zone_replies.specs.State.{HandlerState}
 use Rattle.zone_replies.specs.PendingUpdates.{known_at, place_in, IsLater, IsMadeBy}
 use Rattle.zone_replies.proofs.PendingLemmas.{left_all, left_grows}
 use Rattle.zone_replies.proofs.PendingRepliedLemmas.{meets_grows, taken_replied}
-use Rattle.zone_replies.proofs.update_replies.ConnectionHandler.reply_taken.Goals as goal
-use Rattle.zone_replies.proofs.update_replies.ConnectionHandler.reply_taken.Goals.{else-may-via-then-may+else-is_one, else-may-via-else-may}
+use Rattle.zone_replies.proofs.connection_handler.ConnectionHandler.reply_taken.Goals as goal
+use Rattle.zone_replies.proofs.connection_handler.ConnectionHandler.reply_taken.Goals.{else-may-via-then-may+else-is_one, else-may-via-else-may}
 
 apart : (len : ℕ) → ◌≡◌ {A = Option (Reply Transfer)} (Some (One len)) None → ⊥
 apart len is = cc

@@ -4,7 +4,7 @@ use Rattle.std.specs.Prelude.{take}
 use Rattle.zone_replies.specs.State.{HandlerState}
 use Rattle.zone_replies.specs.PendingUpdates.{IsWritten}
 use Rattle.zone_replies.proofs.PendingRepliedLemmas.{told_written}
-use Rattle.zone_replies.proofs.update_replies.ConnectionHandler.reply_done.Goals as goal
+use Rattle.zone_replies.proofs.connection_handler.ConnectionHandler.reply_done.Goals as goal
 
 pub returns-clause-octets : goal.returns-clause-octets
 returns-clause-octets g c =

@@ -7,7 +7,7 @@ use Rattle.zone_server.specs.Known.{learned_by}
 use Rattle.zone_replies.specs.State.{HandlerState}
 use Rattle.zone_replies.specs.PendingUpdates.{known_at, entry_in}
 use Rattle.zone_replies.proofs.PendingLemmas.{gone_all, gone_grows, back_all, back_grows, out_none, place_within, set_length}
-use Rattle.zone_replies.proofs.update_replies.ConnectionHandler.submit_more.Goals as goal
+use Rattle.zone_replies.proofs.connection_handler.ConnectionHandler.submit_more.Goals as goal
 
 pub put-requires-clause-none : goal.put-requires-clause-none
 put-requires-clause-none g c = out_none c.self.inside.taken c.take.new.self c.self.inside.asker c.take.ensures.rest

@@ -7,7 +7,7 @@ use Rattle.zone_replies.specs.State.{PendingState}
 use Rattle.zone_replies.specs.PendingUpdates.{known_at, place_in}
 use Rattle.zone_replies.proofs.PendingLemmas.{same_grows}
 use Rattle.zone_replies.proofs.PendingRepliedLemmas.{none_made, step_made}
-use Rattle.zone_replies.proofs.update_replies.ConnectionHandler.reply_update.Goals as goal
+use Rattle.zone_replies.proofs.connection_handler.ConnectionHandler.reply_update.Goals as goal
 
 pub returns-in_default-clause-grows : goal.returns-in_default-clause-grows
 returns-in_default-clause-grows g c = same_grows c.args.self.now.taken c.reply_served.new.self.taken c.args.self.now.reader c.reply_served.new.self.reader c.reply_served.ensures.taken c.reply_served.ensures.grows

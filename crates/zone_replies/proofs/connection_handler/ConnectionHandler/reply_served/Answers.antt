@@ -6,7 +6,7 @@ use Rattle.zone_server.specs.Known.{learned_by}
 use Rattle.zone_server.proofs.NowLemmas.{told_grows}
 use Rattle.zone_replies.specs.State.{HandlerState}
 use Rattle.zone_replies.proofs.PendingLemmas.{taken_grow}
-use Rattle.zone_replies.proofs.update_replies.ConnectionHandler.reply_served.Goals as goal
+use Rattle.zone_replies.proofs.connection_handler.ConnectionHandler.reply_served.Goals as goal
 
 pub invariant_of-self : goal.invariant_of-self
 invariant_of-self g c =

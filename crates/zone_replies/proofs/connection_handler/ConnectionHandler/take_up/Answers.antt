@@ -6,7 +6,7 @@ use Rattle.zone_replies.specs.State.{PendingState, HandlerState}
 use Rattle.zone_replies.specs.PendingUpdates.{known_at, place_in, IsLater, IsMadeBy}
 use Rattle.zone_replies.proofs.PendingLemmas.{made_all, made_grows, begun_all, begun_grows, made_none, room_if}
 use Rattle.zone_replies.proofs.PendingRepliedLemmas.{meets_grows, meets_taken, later_made}
-use Rattle.zone_replies.proofs.update_replies.ConnectionHandler.take_up.Goals as goal
+use Rattle.zone_replies.proofs.connection_handler.ConnectionHandler.take_up.Goals as goal
 
 pub invariant_of-self : goal.invariant_of-self
 invariant_of-self g c =
