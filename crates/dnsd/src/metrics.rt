@@ -30,8 +30,8 @@ pub fn beside_of(serve: &Serve<'_>) -> usize {
 /// How many lines of the log the page shows (own).
 const LINES: usize = 20;
 
-/// The files in which the system lists UDP sockets (Linux, proc(5)).
-const UDP_SOCKETS: [&str; 2] = ["/proc/net/udp", "/proc/net/udp6"];
+/// The files in which the system lists UDP sockets (Linux, proc(5)), by the process's own directory: where `/proc` shows processes alone, it has no `/proc/net`.
+const UDP_SOCKETS: [&str; 2] = ["/proc/self/net/udp", "/proc/self/net/udp6"];
 
 /// What shows how many datagrams the system drops: the files that can be opened. The fault is a growth that was refused.
 pub fn drops_for<R: Files<File = File> + AllocGlobal>(rt: &R) -> io::Result<UdpDrops> {
