@@ -204,6 +204,31 @@ exec 9<>"/dev/tcp/127.0.0.1/$((port + 1))"
 check 'metrics beside a client that says nothing' '200 text/plain; version=0.0.4' "$(told -m 2 "http://$web/metrics")"
 exec 9>&-
 
+# One that sends an octet at a time has ten seconds, by HTTP and at the control socket.
+check 'clients that send an octet at a time' 'closed after ten seconds
+closed after ten seconds' "$(python3 - "$((port + 1))" "$work/control" <<'P'
+import socket, sys, time
+begun = time.monotonic()
+clients = [socket.create_connection(("127.0.0.1", int(sys.argv[1]))), socket.socket(socket.AF_UNIX)]
+clients[1].connect(sys.argv[2])
+for it in clients: it.settimeout(0.05)
+def is_open(it):
+    try:
+        it.send(b"x")
+        return it.recv(1) != b""
+    except TimeoutError:
+        return True
+    except OSError:
+        return False
+while clients and time.monotonic() - begun < 15:
+    for it in list(clients):
+        if not is_open(it):
+            took = time.monotonic() - begun
+            print("closed after", "ten seconds" if 10 <= took < 12 else took)
+            clients.remove(it)
+P
+)"
+
 # The control socket prints the same lines.
 curl -fsS "http://$web/metrics" | sed 's/ .*//' | sort >"$work/web"
 "$program" control "$work/control" stats | sed 's/ .*//' | sort >"$work/stats"
