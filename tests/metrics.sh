@@ -497,6 +497,48 @@ wait "$update"
 check 'the update' '' "$(cat "$work/said")"
 check 'health after the sync' '200 text/plain; charset=utf-8 ok' "$(told "http://$web/healthz") $(cat "$work/body")"
 
+# Threads that stand still while the others go on: that of NOTIFYs and that of the control socket, 4 and 5 after the two of a worker, the update thread and the log's. Each is stopped as by a
+# debugger, which the system may forbid. They are the last but two and the last but one that were started; the last one answers here.
+unserve
+workers=1 serve "$zone" --metrics "$web" --control "$work/control" --notify "127.0.0.1:$((port + 4))"
+check 'health with both threads' '200 text/plain; charset=utf-8 ok' "$(told "http://$web/healthz") $(cat "$work/body")"
+python3 - "$server" "http://$web/healthz" >"$work/stopped" <<'P'
+import ctypes, os, sys, time, urllib.error, urllib.request
+SEIZE, INTERRUPT, DETACH = 0x4206, 0x4207, 17
+libc = ctypes.CDLL(None, use_errno=True)
+libc.ptrace.argtypes = [ctypes.c_long, ctypes.c_long, ctypes.c_void_p, ctypes.c_void_p]
+threads = sorted(map(int, os.listdir(f"/proc/{sys.argv[1]}/task")))[-3:-1]
+def trace(request, thread):
+    if libc.ptrace(request, thread, None, None) != 0:
+        print("not permitted:", os.strerror(ctypes.get_errno()))
+        sys.exit()
+def stop(thread):
+    trace(SEIZE, thread)
+    trace(INTERRUPT, thread)
+    os.waitpid(thread, 0x40000000)
+def told():
+    try:
+        with urllib.request.urlopen(sys.argv[2], timeout=5) as page: return page.read().decode().strip()
+    except urllib.error.HTTPError as fault: return fault.read().decode().strip()
+for thread in threads: stop(thread)
+time.sleep(5)
+print(told())
+time.sleep(6.5)
+print(told())
+for thread in threads:
+    trace(DETACH, thread)
+    time.sleep(0.5)
+    print(told())
+P
+if grep -q '^not permitted' "$work/stopped"; then
+    echo "not tried: threads that stand still: $(cat "$work/stopped")"
+else
+    check 'health with threads that stand still' 'ok
+thread 4 is stuck
+thread 5 is stuck
+ok' "$(cat "$work/stopped")"
+fi
+
 unserve
 serve "$zone"
 check 'nobody listens without the option' '000' "$(curl -sS -o /dev/null -w '%{http_code}' "http://$web/metrics" 2>/dev/null)"
