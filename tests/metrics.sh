@@ -204,6 +204,31 @@ exec 9<>"/dev/tcp/127.0.0.1/$((port + 1))"
 check 'metrics beside a client that says nothing' '200 text/plain; version=0.0.4' "$(told -m 2 "http://$web/metrics")"
 exec 9>&-
 
+# One that sends an octet at a time has ten seconds, by HTTP and at the control socket.
+check 'clients that send an octet at a time' 'closed after ten seconds
+closed after ten seconds' "$(python3 - "$((port + 1))" "$work/control" <<'P'
+import socket, sys, time
+begun = time.monotonic()
+clients = [socket.create_connection(("127.0.0.1", int(sys.argv[1]))), socket.socket(socket.AF_UNIX)]
+clients[1].connect(sys.argv[2])
+for it in clients: it.settimeout(0.05)
+def is_open(it):
+    try:
+        it.send(b"x")
+        return it.recv(1) != b""
+    except TimeoutError:
+        return True
+    except OSError:
+        return False
+while clients and time.monotonic() - begun < 15:
+    for it in list(clients):
+        if not is_open(it):
+            took = time.monotonic() - begun
+            print("closed after", "ten seconds" if 10 <= took < 12 else took)
+            clients.remove(it)
+P
+)"
+
 # The control socket prints the same lines.
 curl -fsS "http://$web/metrics" | sed 's/ .*//' | sort >"$work/web"
 "$program" control "$work/control" stats | sed 's/ .*//' | sort >"$work/stats"
@@ -471,6 +496,48 @@ check 'health with an update thread that is stuck' '503 text/plain; charset=utf-
 wait "$update"
 check 'the update' '' "$(cat "$work/said")"
 check 'health after the sync' '200 text/plain; charset=utf-8 ok' "$(told "http://$web/healthz") $(cat "$work/body")"
+
+# Threads that stand still while the others go on: that of NOTIFYs and that of the control socket, 4 and 5 after the two of a worker, the update thread and the log's. Each is stopped as by a
+# debugger, which the system may forbid. They are the last but two and the last but one that were started; the last one answers here.
+unserve
+workers=1 serve "$zone" --metrics "$web" --control "$work/control" --notify "127.0.0.1:$((port + 4))"
+check 'health with both threads' '200 text/plain; charset=utf-8 ok' "$(told "http://$web/healthz") $(cat "$work/body")"
+python3 - "$server" "http://$web/healthz" >"$work/stopped" <<'P'
+import ctypes, os, sys, time, urllib.error, urllib.request
+SEIZE, INTERRUPT, DETACH = 0x4206, 0x4207, 17
+libc = ctypes.CDLL(None, use_errno=True)
+libc.ptrace.argtypes = [ctypes.c_long, ctypes.c_long, ctypes.c_void_p, ctypes.c_void_p]
+threads = sorted(map(int, os.listdir(f"/proc/{sys.argv[1]}/task")))[-3:-1]
+def trace(request, thread):
+    if libc.ptrace(request, thread, None, None) != 0:
+        print("not permitted:", os.strerror(ctypes.get_errno()))
+        sys.exit()
+def stop(thread):
+    trace(SEIZE, thread)
+    trace(INTERRUPT, thread)
+    os.waitpid(thread, 0x40000000)
+def told():
+    try:
+        with urllib.request.urlopen(sys.argv[2], timeout=5) as page: return page.read().decode().strip()
+    except urllib.error.HTTPError as fault: return fault.read().decode().strip()
+for thread in threads: stop(thread)
+time.sleep(5)
+print(told())
+time.sleep(6.5)
+print(told())
+for thread in threads:
+    trace(DETACH, thread)
+    time.sleep(0.5)
+    print(told())
+P
+if grep -q '^not permitted' "$work/stopped"; then
+    echo "not tried: threads that stand still: $(cat "$work/stopped")"
+else
+    check 'health with threads that stand still' 'ok
+thread 4 is stuck
+thread 5 is stuck
+ok' "$(cat "$work/stopped")"
+fi
 
 unserve
 serve "$zone"

@@ -74,21 +74,18 @@ pub fn accept_client(listener: &UnixListener, now: u64) -> Option<ControlClient>
 impl ControlClient {
     /// Reads what the client has sent, and gives its command once the line is whole.
     pub fn hear(&mut self, now: u64) -> Heard {
+        let late = self.is_late(now);
         let Stage::Sends = &self.stage else {
             return Heard::Nothing;
         };
         let room = &mut self.line[self.len.min(LINE)..];
         match self.stream.read(room) {
-            Ok(0) => {
-                self.stage = Stage::Gone;
-                Heard::Nothing
-            }
-            Ok(count) => {
+            Ok(count) if count > 0 && !late => {
                 self.len = self.len.saturating_add(count).min(LINE);
                 self.take_line()
             }
-            Err(fault) if is_later(fault.kind()) && !self.is_late(now) => Heard::Nothing,
-            Err(_) => {
+            Err(fault) if is_later(fault.kind()) && !late => Heard::Nothing,
+            Ok(_) | Err(_) => {
                 self.stage = Stage::Gone;
                 Heard::Nothing
             }
@@ -126,7 +123,7 @@ impl ControlClient {
         let is_over = match self.stream.write(rest) {
             Ok(count) => {
                 *sent = sent.saturating_add(count);
-                *sent >= octets.len() || (count == 0 && late)
+                *sent >= octets.len() || late
             }
             Err(fault) => late || !is_later(fault.kind()),
         };

@@ -1,9 +1,9 @@
 //! The operator's commands to a running server: its control socket, and the thread that reads the zone file again for a reload.
-use crate::metrics::{beside_of, drops_for, process_for, started};
+use crate::metrics::{beside_of, control_work_of, drops_for, process_for, started};
 use command_line::Serve;
 use commands::Source;
 use dnsd_setup::{FileReader, StartedZone, bind_control_at, prepare_reloads, remove_control};
-use server_control::ControlPlan;
+use server_control::{ControlPlan, MetricsPlan};
 use std::alloc::AllocError;
 use std::fs::{File, Files};
 use std::io;
@@ -67,6 +67,7 @@ fn plan_for<R: Files<File = File> + AllocGlobal + Clock, S: Fn(FileReader) -> io
         store: None,
         drops: drops_for(rt)?,
         process: process_for(rt),
+        work: None,
     })
 }
 
@@ -77,10 +78,11 @@ pub fn unbind_control<R: Files<File = File>>(rt: &R, serve: &Serve<'_>) {
     }
 }
 
-/// The same, if there is that, for a server that begins with this at these addresses: the number of its version, what is seen of its store, and the addresses. Fails if there is not
-/// enough memory.
+/// The same, if there is that, for a server that begins with this at these addresses: the number of its version, what is seen of its store, the addresses, and where metrics, if they are
+/// served, see its rounds. Fails if there is not enough memory.
 pub fn control_of(
     control: Option<ControlPlan>,
+    metrics: Option<&MetricsPlan>,
     begun: &StartedZone,
     addresses: &[SocketAddr],
 ) -> Result<Option<ControlPlan>, AllocError> {
@@ -92,5 +94,6 @@ pub fn control_of(
     }
     plan.first = begun.number();
     plan.store = begun.store_state()?;
+    plan.work = control_work_of(metrics)?;
     Ok(Some(plan))
 }

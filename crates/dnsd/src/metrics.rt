@@ -30,8 +30,8 @@ pub fn beside_of(serve: &Serve<'_>) -> usize {
 /// How many lines of the log the page shows (own).
 const LINES: usize = 20;
 
-/// The files in which the system lists UDP sockets (Linux, proc(5)).
-const UDP_SOCKETS: [&str; 2] = ["/proc/net/udp", "/proc/net/udp6"];
+/// The files in which the system lists UDP sockets (Linux, proc(5)), by the process's own directory: where `/proc` shows processes alone, it has no `/proc/net`.
+const UDP_SOCKETS: [&str; 2] = ["/proc/self/net/udp", "/proc/self/net/udp6"];
 
 /// What shows how many datagrams the system drops: the files that can be opened. The fault is a growth that was refused.
 pub fn drops_for<R: Files<File = File> + AllocGlobal>(rt: &R) -> io::Result<UdpDrops> {
@@ -83,6 +83,8 @@ pub fn metrics_for<R: Files<File = File> + Net + Env + Eprint + AllocGlobal + Cl
             lines: Arc::new(rt.alloc(), RecentLines::new(rt.alloc(), LINES))?,
             updating: Arc::new(rt.alloc(), WorkSince::new())?,
             logging: Arc::new(rt.alloc(), WorkSince::new())?,
+            notifying: Arc::new(rt.alloc(), WorkSince::new())?,
+            controlling: Arc::new(rt.alloc(), WorkSince::new())?,
             beside: beside_of(serve),
             store: None,
             started: started(rt),
@@ -107,6 +109,22 @@ pub fn seen_writer_of(metrics: Option<&MetricsPlan>) -> Result<Option<SeenWriter
 pub fn update_work_of(metrics: Option<&MetricsPlan>) -> Result<Option<SharedWork>, AllocError> {
     match metrics {
         Some(plan) => Ok(Some(Arc::try_clone(&plan.updating)?)),
+        None => Ok(None),
+    }
+}
+
+/// Where the thread that notifies secondaries shows when a round began, if metrics are served. The fault is a request for memory that was refused.
+pub fn notify_work_of(metrics: Option<&MetricsPlan>) -> Result<Option<SharedWork>, AllocError> {
+    match metrics {
+        Some(plan) => Ok(Some(Arc::try_clone(&plan.notifying)?)),
+        None => Ok(None),
+    }
+}
+
+/// Where the thread that takes the operator's commands shows the same.
+pub fn control_work_of(metrics: Option<&MetricsPlan>) -> Result<Option<SharedWork>, AllocError> {
+    match metrics {
+        Some(plan) => Ok(Some(Arc::try_clone(&plan.controlling)?)),
         None => Ok(None),
     }
 }

@@ -3,6 +3,7 @@ use command_line::{Secondary, source_of};
 use dns_name::Name;
 use log_lines::Level;
 use serve_workers::{NotifySocket, Secondaries};
+use server_control::SharedWork;
 use std::alloc::Global;
 use std::io::{self, ErrorKind};
 use std::net::{Net, SocketAddr, UdpSocket};
@@ -91,13 +92,14 @@ impl SecondarySockets {
         self.sockets.is_empty()
     }
 
-    /// The same for the zone with this apex.
-    pub fn of_zone(self, apex: Name) -> Secondaries {
+    /// The same for the zone with this apex, and where others see the rounds of their thread, if they do.
+    pub fn of_zone(self, apex: Name, work: Option<SharedWork>) -> Secondaries {
         let SecondarySockets { sockets, seed } = self;
         Secondaries {
             sockets,
             apex,
             seed,
+            work,
         }
     }
 }

@@ -292,7 +292,7 @@ fn serve_on_sockets<
         metrics,
     } = bound;
     let (workers, addresses, kept) = sockets.into_parts();
-    let control = control_of(control, &begun, addresses.as_slice())?;
+    let control = control_of(control, metrics.as_ref(), &begun, addresses.as_slice())?;
     let metrics = metrics_of(metrics, &begun, addresses.as_slice())?;
     let log = Log::new(entries, listening_for(serve, &begun, addresses, kept));
     warn(rt, serve, &log);

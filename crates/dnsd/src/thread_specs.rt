@@ -1,4 +1,5 @@
 //! What each thread of a server serves, and how many connections.
+use crate::metrics::notify_work_of;
 use crate::secondaries::SecondarySockets;
 use command_line::Serve;
 use dns_name::Name;
@@ -24,7 +25,8 @@ pub fn thread_specs_for<'a>(
     let mut specs = thread_specs_of(alloc, sockets, limits)?;
     if !secondaries.is_empty() {
         let worker = specs.len().saturating_add(1);
-        let secondaries = Sockets::Secondaries(secondaries.of_zone(apex.copy()));
+        let work = notify_work_of(metrics.as_ref()).ok()?;
+        let secondaries = Sockets::Secondaries(secondaries.of_zone(apex.copy(), work));
         put(&mut specs, worker, telling, secondaries)?;
     }
     if let Some(control) = control {

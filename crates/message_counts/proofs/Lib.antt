@@ -1,4 +1,5 @@
 pub mod CountLemmas
 pub mod NameLemmas
 pub mod OwnerLemmas
+pub mod ReplyLemmas
 pub mod TypeLemmas

@@ -9,7 +9,6 @@ use Rattle.counters.specs.Qtypes.{qtype_of}
 use Rattle.counters.specs.declared.qtype.Qtype.{Qtype}
 use Rattle.counters.specs.declared.qtype.Qtype.TheVariants.{A, Aaaa}
 use Rattle.counters.specs.Rcodes.{rcode_of as rcode_named}
-use Rattle.counters.specs.declared.address_family.AddressFamily.TheVariants.{V4, V6}
 use Rattle.counters.specs.declared.transfer.Transfer.{Transfer as TransferKind}
 use Rattle.message_counts.specs.Places.{asks_with, ends_with_opt, number_at, opcode_of, is_truncated, question_type, rcode_of}
 use Rattle.message_counts.specs.Transfers.{asks_transfer, transfer_of}

@@ -12,7 +12,7 @@ mod thread;
 mod transfers;
 
 pub use count::{count_reply, count_request};
-pub use laws::types_agree;
+pub use laws::{replies_count_once, types_agree};
 pub use places::{id_of, is_truncated, opcode_of, question_type, rcode_of};
 pub use thread::{DatagramCounts, NoCounts, ThreadCounts, family_of, nanos_of};
 pub use transfers::{asks_transfer, transfer_of};

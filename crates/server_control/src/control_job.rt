@@ -10,6 +10,7 @@ use crate::reload_slot::{ReloadOrder, Reloads};
 use crate::served_facts::{RecordCount, metrics_of, put_system, store_facts};
 use crate::shutdown::Shutdown;
 use crate::udp_drops::UdpDrops;
+use crate::work_since::{SharedWork, end_rounds, show_round};
 use control_socket::{ControlClient, ControlCommand, Heard, accept_client};
 use counters::ServerCounters;
 use std::alloc::{AllocError, Global};
@@ -45,6 +46,8 @@ pub struct ControlPlan {
     pub drops: UdpDrops,
     /// What the system knows of the process.
     pub process: ProcessFiles,
+    /// Where others see when a round began, if they do.
+    pub work: Option<SharedWork>,
 }
 
 impl Drop for ControlPlan {
@@ -58,6 +61,7 @@ impl Drop for ControlPlan {
             started: _,
             drops: _,
             process: _,
+            work: _,
         } = self;
     }
 }
@@ -156,6 +160,7 @@ impl<'a, C: Clock> ControlJob<'a, C> {
             match self.look(rt, handler, log, reload) {
                 Look::GoesOn(next) => reload = next,
                 Look::Ends(end) => {
+                    end_rounds(&self.plan.work);
                     self.end = Some(end);
                     return end;
                 }
@@ -177,6 +182,7 @@ impl<'a, C: Clock> ControlJob<'a, C> {
     {
         let is_over = self.shutdown.is_ending() || self.shutdown.has_left(self.plan.beside);
         let now = millis_of(self.clock);
+        show_round(&self.plan.work, now);
         self.accept(now);
         let reload = self.hear(rt, handler, reload, now);
         let reload = self.go_on(rt, handler, log, reload, now);

@@ -29,4 +29,4 @@ pub use reload_slot::{FileChange, FileZone, ReloadOrder, ReloadResult, ReloadSlo
 pub use serve_fault::ServeFault;
 pub use shutdown::Shutdown;
 pub use udp_drops::UdpDrops;
-pub use work_since::{SharedWork, WorkSince};
+pub use work_since::{SharedWork, WorkSince, end_rounds, show_round};

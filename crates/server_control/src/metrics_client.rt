@@ -62,10 +62,9 @@ impl MetricsClient {
         };
         let mut room = [0u8; 1024];
         match self.stream.read(&mut room) {
-            Ok(0) => self.stage = Stage::Gone,
-            Ok(count) => return self.take(&room[..count.min(1024)]),
+            Ok(count) if count > 0 && !is_late => return self.take(&room[..count.min(1024)]),
             Err(fault) if is_later(fault.kind()) && !is_late => {}
-            Err(_) => self.stage = Stage::Gone,
+            Ok(_) | Err(_) => self.stage = Stage::Gone,
         }
         PageRequest::More
     }
@@ -103,7 +102,7 @@ impl MetricsClient {
         let is_over = match self.stream.write(rest) {
             Ok(count) => {
                 *sent = sent.saturating_add(count);
-                *sent >= octets.len() || (count == 0 && is_late)
+                *sent >= octets.len() || is_late
             }
             Err(fault) => is_late || !is_later(fault.kind()),
         };

@@ -55,6 +55,10 @@ pub struct MetricsPlan {
     pub updating: SharedWork,
     /// What the log's thread shows of its writing.
     pub logging: SharedWork,
+    /// What the thread that notifies secondaries shows of its rounds, if there is one.
+    pub notifying: SharedWork,
+    /// What the thread that takes the operator's commands shows of its rounds, if there is one.
+    pub controlling: SharedWork,
     /// How many threads of the server answer no requests, with this one.
     pub beside: usize,
     /// What is seen of the store; None where there is none.
@@ -72,6 +76,8 @@ impl Drop for MetricsPlan {
             lines: _,
             updating: _,
             logging: _,
+            notifying: _,
+            controlling: _,
             beside: _,
             store: _,
             started: _,
@@ -367,7 +373,8 @@ impl<'a, C: Clock> MetricsJob<'a, C> {
     }
 
     /// Whether the server is healthy. Its threads are those that answer requests, each of which shows its numbers at least once a second until it ends; then the update thread, which
-    /// may not have a batch under way for too long, from before its judging until after its replies; then the log's thread, which may not write for too long at a time.
+    /// may not have a batch under way for too long, from before its judging until after its replies; then the log's thread, which may not write for too long at a time; then the
+    /// thread that notifies secondaries and the one that takes the operator's commands, whose rounds may not take too long.
     fn health_at<R: Wait>(&self, rt: &R, now: u64) -> Result<Health, AllocError> {
         let is_failing = match store_facts(rt, self.alloc, &self.plan.store)? {
             Some(facts) => facts.is_failing,
@@ -376,6 +383,8 @@ impl<'a, C: Clock> MetricsJob<'a, C> {
         let mut since = self.threads.since(self.alloc, self.shutdown.ended())?;
         since.push(self.plan.updating.since())?;
         since.push(self.plan.logging.since())?;
+        since.push(self.plan.notifying.since())?;
+        since.push(self.plan.controlling.since())?;
         Ok(health_of(self.shutdown.is_ending(), is_failing, since.as_slice(), now))
     }
 

@@ -8,7 +8,7 @@ use dns_name::Name;
 use notify::{Due, Heard, MAX_NOTIFY, Notifier};
 use rand_chacha::ChaCha20Rng;
 use rand_core::{Rng, SeedableRng};
-use server_control::Shutdown;
+use server_control::{SharedWork, Shutdown, end_rounds, show_round};
 use signed_replies::{SystemClock, UnixClock};
 use std::alloc::{AllocError, Global};
 use std::net::SocketAddr;
@@ -38,6 +38,8 @@ pub struct Secondaries {
     pub apex: Name,
     /// The secret seed of the random IDs of NOTIFYs.
     pub seed: [u8; 32],
+    /// Where others see when a round of their thread began, if they do.
+    pub work: Option<SharedWork>,
 }
 
 impl Drop for Secondaries {
@@ -46,19 +48,21 @@ impl Drop for Secondaries {
             sockets: _,
             apex: _,
             seed: _,
+            work: _,
         } = self;
     }
 }
 
 impl Secondaries {
-    /// Its sockets, the apex, and the seed.
-    fn into_parts(self) -> (Vec<NotifySocket>, Name, [u8; 32]) {
+    /// Its sockets, the apex, the seed, and where others see rounds.
+    fn into_parts(self) -> (Vec<NotifySocket>, Name, [u8; 32], Option<SharedWork>) {
         let Secondaries {
             sockets,
             apex,
             seed,
+            work,
         } = self;
-        (sockets, apex, seed)
+        (sockets, apex, seed, work)
     }
 }
 
@@ -76,6 +80,8 @@ pub struct NotifyJob<'a, C> {
     keys: Option<&'a Keys>,
     /// Where NOTIFYs are counted, if they are.
     counters: Option<&'a ServerCounters>,
+    /// Where others see when a round began, if they do.
+    work: Option<SharedWork>,
     sent: u64,
     end: Option<JobEnd>,
 }
@@ -92,6 +98,7 @@ impl<'a, C> Drop for NotifyJob<'a, C> {
             shutdown: _,
             keys: _,
             counters: _,
+            work: _,
             sent: _,
             end: _,
         } = self;
@@ -111,7 +118,7 @@ impl<'a, C: Clock> NotifyJob<'a, C> {
     ) -> Result<NotifyJob<'a, C>, AllocError>
         ensures { IfOk result (λ job. job.number ≡ number) }
     {
-        let (sockets, apex, seed) = secondaries.into_parts();
+        let (sockets, apex, seed, work) = secondaries.into_parts();
         let mut addresses = Vec::new(alloc);
         for socket in sockets.iter() {
             addresses.push(socket.address())?;
@@ -126,6 +133,7 @@ impl<'a, C: Clock> NotifyJob<'a, C> {
             shutdown,
             keys,
             counters,
+            work,
             sent: 0,
             end: None,
         })
@@ -192,7 +200,9 @@ impl<'a, C: Clock> NotifyJob<'a, C> {
         ensures number { self.new.number ≡ self.old.number }
     {
         let is_over = self.shutdown.is_ending() || self.shutdown.has_one_left();
-        self.notifier.show(millis_of(self.clock));
+        let now = millis_of(self.clock);
+        show_round(&self.work, now);
+        self.notifier.show(now);
         let wait = match self.do_due(rt, handler, log) {
             Ok(wait) => wait.unwrap_or(LONGEST_LOOK).min(LONGEST_LOOK),
             Err(end) => return Some(end),
@@ -227,6 +237,7 @@ impl<'a, C: Clock> NotifyJob<'a, C> {
     {
         for _ in rt.forever() {
             if let Some(end) = self.look(rt, handler, log) {
+                end_rounds(&self.work);
                 self.end = Some(end);
                 return end;
             }
