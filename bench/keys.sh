@@ -2,7 +2,7 @@
 # Measures what signatures (TSIG, RFC 8945) cost `dnsd serve --keys`, beside BIND's named and Knot's knotd, by turns in one run, with one worker and one zone: processor
 # time of the server a query over UDP (dnsperf), an update over UDP (dnsperf -u; each server keeps it in its store or journal on the same disk), and a whole transfer
 # (dig and kdig, which verify it, and their time); each not signed, signed by a key of hmac-sha256, and by one of hmac-sha512. Each figure is the middle of all rounds. Then
-# of dnsd alone: the part of SHA-2 in its time for queries signed by hmac-sha256 and by hmac-sha512, by perf, of the user's time and in whole.
+# of dnsd alone: the part of SHA-2 in its time for queries and for updates signed by hmac-sha256 and by hmac-sha512, by perf, of the user's time and in whole.
 # Usage: [DNSD=PROGRAM] bench/keys.sh [--rounds N] [--seconds N] [--port N] [--only queries|updates|transfers|shares] [RECORDS], by default 5 rounds, 2 seconds a figure, port 15963, and a zone of 100000 records
 # With TMPDIR on a file system in memory nothing waits for the disk. It needs Debian's dnsperf, bind9, bind9-dnsutils, knot and knot-dnsutils, and linux-perf for the shares. `make dnsd` builds the program.
 set -euo pipefail
@@ -147,19 +147,21 @@ tell() {
     done
 }
 
-# Part of the samples of dnsd's time that stand in functions of SHA-2 and HMAC, while dnsperf asks signed queries: KIND
+# Part of the samples of dnsd's time that stand in functions of SHA-2 and HMAC, while dnsperf sends what is signed: queries|updates KIND
 shares() {
+    local file=questions option=()
+    [ "$1" = queries ] || file=updates option=(-u)
     perf record -q -e cpu-clock -F 4999 -p "$server" -o "$work/perf" -- sleep "$seconds" 2>/dev/null &
     peers=$!
-    dnsperf -s 127.0.0.1 -p "$port" -d "$work/questions" -l "$((seconds + 1))" -c 10 -T 1 -q 50 -y "${key[$1]}" >/dev/null 2>&1
+    dnsperf -s 127.0.0.1 -p "$port" "${option[@]}" -d "$work/$file" -l "$((seconds + 1))" -c 10 -T 1 -q 50 -y "${key[$2]}" >/dev/null 2>&1
     wait "$peers"
     peers=
-    perf report -i "$work/perf" --no-children -q --stdio -F overhead,dso,symbol -t '|' 2>/dev/null | awk -F '|' -v kind="$1" '
+    perf report -i "$work/perf" --no-children -q --stdio -F overhead,dso,symbol -t '|' 2>/dev/null | awk -F '|' -v what="$1" -v kind="$2" '
         { share = $1 + 0; kernel = $2 ~ /kernel|vdso/; all += share; if (!kernel) user += share }
         !kernel && tolower($3) ~ /sha2|sha256|sha512|compress/ { sha += share; if (n++ < 4) names = names ", " $3 }
         !kernel && tolower($3) ~ /hmac/ { hmac += share }
-        END { printf "dnsd, queries signed by %s: SHA-2 has %.0f in 100 of the user'"'"'s time and %.0f of all, the rest of HMAC %.0f of the user'"'"'s; the kernel has %.0f of all%s\n",
-            kind, 100 * sha / user, 100 * sha / all, 100 * hmac / user, 100 * (all - user) / all, names }'
+        END { printf "dnsd, %s signed by %s: SHA-2 has %.0f in 100 of the user'"'"'s time and %.0f of all, the rest of HMAC %.0f of the user'"'"'s; the kernel has %.0f of all%s\n",
+            what, kind, 100 * sha / user, 100 * sha / all, 100 * hmac / user, 100 * (all - user) / all, names }'
 }
 
 # The server's middle figures are of its own rounds; servers and kinds take turns.
@@ -185,7 +187,13 @@ for round in $(seq "$rounds"); do
         done
         if [ "$round $name" = "1 dnsd" ] && { [ -z "$only" ] || [ "$only" = shares ]; }; then
             if command -v perf >/dev/null; then
-                for kind in sha256 sha512; do shares "$kind"; done
+                at=3
+                for kind in sha256 sha512; do
+                    at=$((at + 1))
+                    updates "${at}00000" >"$work/updates"
+                    shares queries "$kind"
+                    shares updates "$kind"
+                done
             else
                 echo "bench: no perf, for the part of SHA-2: it needs Debian's linux-perf" >&2
             fi
