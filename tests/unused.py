@@ -82,6 +82,7 @@ LAWS = {
     "incremental_lists_are_taken first_faults_are_reported messages_tell_their_records examples_of_windows "
     "examples_of_changes serials_of_a_window_differ windows_are_longest_runs",
     "transfer_in": "lists_are_received datagrams_are_received",
+    "tsig_laws": "signed_is_taken",
     "update_core": "examples_of_prerequisites examples_of_sets examples_of_prescan examples_of_verdicts "
     "examples_of_taken_updates examples_of_adds examples_of_deletions examples_of_serials "
     "prerequisites_change_nothing replays_agree",
