@@ -8,6 +8,7 @@ hmac-sha512 (RFC 8945); what is right is computed here, by Python's own HMAC.
 - Two transfers of several messages one after the other on a connection, and a query after them: the first message of each is signed after its request's MAC, each
   later one after that of the message before, all of them with the Time Signed of the first and a fudge of 14,400 seconds; the query's reply after the query's MAC.
 - A key that no rule names: its update and its transfer are REFUSED, signed.
+- With a file of no key a signed request is NOTAUTH with BADKEY, unsigned; without --keys it is answered as one without a TSIG.
 Usage: [DNSD=PROGRAM] tests/tsig_late.py. It prints a line a check and a count, and its status is 1 where one failed. It takes a minute, most of it waiting. It needs
 Linux, python3 and a C compiler, `cc` or $CC. It is no part of the gate."""
 import base64
@@ -29,7 +30,7 @@ ZONE = b"\7example\4test\0"
 SECRETS = {"sha256": bytes(range(32)), "sha512": bytes(range(64))}
 A, SOA, TSIG, AXFR, ANY = 1, 6, 250, 252, 255
 RECORDS, SLOW = 3000, 2500
-NOERROR, REFUSED, NOTAUTH, BADTIME = 0, 5, 9, 18
+NOERROR, REFUSED, NOTAUTH, BADKEY, BADTIME = 0, 5, 9, 17, 18
 passed = failed = 0
 
 
@@ -216,6 +217,32 @@ def without_rights(port, kind, owner):
         check(f"{kind}, a key that no rule names: {what} REFUSED, signed", parts(reply)[0] == REFUSED and is_signed(reply, kind, owner, mac), told(reply))
 
 
+def keyless(room, has_file):
+    """What a server without a key says to signed requests, by a file of none, or without a file."""
+    options, folder = ["--workers", "1"], f"{room}/{'empty' if has_file else 'none'}"
+    os.mkdir(folder)
+    if has_file:
+        with open(f"{room}/empty-keys", "w"):
+            os.chmod(f"{room}/empty-keys", 0o600)
+        options += ["--keys", f"{room}/empty-keys"]
+    options += ["--may" if has_file else "--allow", "127.0.0.1: update" if has_file else "127.0.0.1"]
+    server = crash_server.Served(program, folder, f"{room}/zone", options)
+    try:
+        for over in "udp", "tcp":
+            for what, plain in (("query", question(10, SOA)), ("update", update(10, over))):
+                client = Client(server.port, over)
+                client.send(signed(plain, "sha256", "sha256.key")[0])
+                reply = client.receive()
+                code, _, tsig = parts(reply)
+                if has_file:
+                    is_right = code == NOTAUTH and tsig is not None and (tsig["error"], tsig["mac"]) == (BADKEY, b"")
+                    check(f"{over}, a file of no key: a signed {what} is NOTAUTH, BADKEY, unsigned", is_right, told(reply))
+                else:
+                    check(f"{over}, without --keys: a signed {what} is answered as one without a TSIG", (code, tsig) == (NOERROR, None), told(reply))
+    finally:
+        server.kill()
+
+
 def main():
     with tempfile.TemporaryDirectory(prefix="tsig-late-") as room:
         with open(f"{room}/zone", "w") as file:
@@ -243,6 +270,8 @@ def main():
                         without_rights(server.port, kind, f"none{kind}.key")
             finally:
                 server.kill()
+        keyless(room, True)
+        keyless(room, False)
     print(f"{passed} checks passed, {failed} failed")
     return 1 if failed else 0
 
