@@ -1,5 +1,5 @@
 //! Datagrams that are signed (RFC 8945, 5).
-ghost use Rattle.std.specs.Prelude.{◌≡◌, ◌≤◌, [], ◌∷◌, length, take, slice_get, IfOk, IfSome};
+ghost use Rattle.std.specs.Prelude.{◌≡◌, ◌≤◌, [], ◌∷◌, length, take, slice_get, IfOk, IfSome, IsTrue};
 ghost use Rattle.dns_message.specs.Message.{message_limit};
 ghost use Rattle.dns_message.specs.Request.{IsWant};
 ghost use Rattle.dns_message.specs.declared.query.Parsed.TheVariants.{NoMemory as no_memory};
@@ -45,7 +45,10 @@ pub struct SignedDatagrams<'r, 'k, K: KeyRing, A: SignsLater, C, O> {
     from: SocketAddr,
     /// Whether that handler may still have the TSIG of a request before.
     has_tsig: bool,
+    /// Whether that handler has the peer, and its address.
+    is_turned: bool,
     room: PlainRoom,
+    ghost turned: { IsTrue is_turned → A.peer inner ≡ peer },
 }
 
 impl<'r, 'k, K: KeyRing, A: SignsLater + Drop, C: UnixClock, O: TsigLog + Drop> SignedDatagrams<
@@ -77,6 +80,7 @@ impl<'r, 'k, K: KeyRing, A: SignsLater + Drop, C: UnixClock, O: TsigLog + Drop> 
             peer,
             from,
             has_tsig: true,
+            is_turned: false,
             room,
         }
     }
@@ -159,6 +163,24 @@ impl<'r, 'k, K: KeyRing, A: SignsLater + Drop, C: UnixClock, O: TsigLog + Drop> 
         self.answer_verified(rt, &message, request, out)
     }
 
+    /// Answers a request that has no TSIG, by the handler that has its peer.
+    fn answer_turned<R: Wait>(
+        &mut self,
+        rt: &R,
+        request: &[u8],
+        out: &mut [u8],
+    ) -> Result<Option<usize>, Spent>
+        requires unsigned { unsigned ≡ received K.keys 0 request.now }
+        requires turned { A.peer self.old.inner ≡ self.old.peer }
+        requires room { message_limit ≤ length out.old }
+        ensures same { self.new.peer ≡ self.old.peer }
+        ensures grows { Grows {T = Version} (A.seen self.new.inner) (A.seen self.old.inner) }
+        ensures bound { IfOk result (λ len. IfSome len (λ n. (n ≤ message_limit) × (n ≤ length out.new))) }
+        ensures reply { IfOk result (λ len. IsReplyTo {K = Learned Version} K.keys K.rights A.is_reply AreSignedAlone (Grows {T = Version}) (by_datagram self.old.peer) (A.seen self.old.inner) (A.seen self.new.inner) request.now (messages_in len out.new)) }
+    {
+        self.inner.answer(rt, request, out)
+    }
+
     /// Answers a request that has no TSIG.
     fn answer_plain<R: Wait>(
         &mut self,
@@ -174,6 +196,7 @@ impl<'r, 'k, K: KeyRing, A: SignsLater + Drop, C: UnixClock, O: TsigLog + Drop> 
         ensures reply { IfOk result (λ len. IsReplyTo {K = Learned Version} K.keys K.rights A.is_reply AreSignedAlone (Grows {T = Version}) (by_datagram self.old.peer) (A.seen self.old.inner) (A.seen self.new.inner) request.now (messages_in len out.new)) }
     {
         self.forget_tsig();
+        self.is_turned = false;
         let (peer, from) = (self.peer, self.from);
         answer_as(rt, &mut self.inner, peer, from, request, out)
     }
@@ -237,6 +260,7 @@ impl<'r, 'k, K: KeyRing, A: SignsLater + Drop, C: UnixClock, O: TsigLog + Drop> 
             Verification::Unsigned => {
                 let (peer, from) = (self.peer, self.from);
                 self.has_tsig = false;
+                self.is_turned = false;
                 answer_with(rt, &mut self.inner, peer, from, None, request, out)
             }
             Verification::Silent => Ok(None),
@@ -296,6 +320,7 @@ impl<'r, 'k, K: KeyRing, A: SignsLater + Drop, C: UnixClock, O: TsigLog + Drop> 
         let Some(key) = self.ring.keys().get(tsig.key) else {
             return Ok(None);
         };
+        self.is_turned = false;
         let plain = self.room.plain(request, tsig.start);
         let limit = reply_limit(plain, Transport::Udp);
         let peer = match self
@@ -344,6 +369,7 @@ impl<'r, 'k, K: KeyRing, A: SignsLater + Drop, C: UnixClock, O: TsigLog + Drop> 
         ensures reply { (before : Learned Version) × Grows before (A.seen self.old.inner) × Grows (A.seen self.new.inner) before
             × ((asking : PeerAsking) → IsReplyBy {K = Learned Version} K.keys K.rights A.is_reply AreSignedAlone verified.entry now (by_datagram asking) before (A.seen self.new.inner) request.now (take result out.new ∷ [])) }
     {
+        self.is_turned = false;
         match verified {
             Verification::Unsigned => self.inner.answer_unread(request, head, out),
             // It has a header, and is no reply.
@@ -425,11 +451,14 @@ impl<'r, 'k, K: KeyRing, A: SignsLater + Drop, C: UnixClock, O: TsigLog + Drop> 
     ghost is_reply = { λ peer seen later request messages. IsReplyTo K.keys K.rights A.is_reply AreSignedAlone Grows peer seen later request messages };
 
     fn turn_to(&mut self, other: Peer, from: SocketAddr) {
+        self.inner.turn_to(other, from);
         self.peer = other;
         self.from = from;
+        self.is_turned = true;
     }
 
     fn answer_unread(&mut self, request: &[u8], head: Head, out: &mut [u8]) -> usize {
+        self.is_turned = false;
         if request.len() > MAX_LIMIT {
             return self.inner.answer_unread(request, head, out);
         }
@@ -449,6 +478,9 @@ impl<'r, 'k, K: KeyRing, A: SignsLater + Drop, C: UnixClock, O: TsigLog + Drop> 
             return Ok(None);
         }
         if has_no_tsig(request) {
+            if self.is_turned && !self.has_tsig {
+                return self.answer_turned(rt, request, out);
+            }
             return self.answer_plain(rt, request, out);
         }
         self.answer_walked(rt, request, out)

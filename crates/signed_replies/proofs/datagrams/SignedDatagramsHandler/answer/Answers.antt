@@ -11,3 +11,6 @@ returns-then-request-lt-HEADER-clause-reply g c =
 
 pub answer_plain-requires-clause-unsigned : goal.answer_plain-requires-clause-unsigned
 answer_plain-requires-clause-unsigned g c = sym (c.if-has_no_tsig.ensures g.K.KeyRing.keys 0)
+
+pub answer_turned-requires-clause-unsigned : goal.answer_turned-requires-clause-unsigned
+answer_turned-requires-clause-unsigned g c = sym (c.if-has_no_tsig.ensures g.K.KeyRing.keys 0)
