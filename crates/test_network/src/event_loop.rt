@@ -440,11 +440,7 @@ fn each_has_its_turn(rt: HostRuntime) -> Result<(), Fail> {
         key.set(made);
         worker.echo.made = made;
         worker.turn(&rt, 1)?;
-        assert_eq!(rt;
-            lens_of(worker.outputs()),
-            (all, fewest),
-            "in row {at}"
-        );
+        assert_eq!(rt; lens_of(worker.outputs()), (all, fewest), "in row {at}");
     }
     Ok(())
 }
