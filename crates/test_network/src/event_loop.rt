@@ -438,7 +438,7 @@ fn each_has_its_turn(rt: HostRuntime) -> Result<(), Fail> {
     worker.turns = EventLoop::new(alloc, 128, 1)?;
     for (at, (made, all, fewest)) in ROUNDS.into_iter().enumerate() {
         key.set(made);
-        worker.echo.made = made;
+        begin_row(&mut worker.echo, made);
         worker.turn(&rt, 1)?;
         assert_eq!(rt; lens_of(worker.outputs()), (all, fewest), "in row {at}");
     }
