@@ -1,7 +1,7 @@
 //! A worker's turns over simulated polls.
 
 use crate::echo::Echo;
-use crate::pieces::{After, Output, Pieces, open_of, repeated, written};
+use crate::pieces::{After, Output, Pieces, len_of, open_of, repeated, written};
 use crate::polls::{Comers, Poll, TellingPoll};
 use crate::running::{Running, SECOND};
 use std::alloc::{AllocError, Global};
@@ -385,6 +385,62 @@ fn other_connections_go_on(rt: HostRuntime) -> Result<(), Fail> {
             (asked, true),
             "in row {at}"
         );
+    }
+    Ok(())
+}
+
+/// The octets on the first of these outputs and on every second one after it; and the fewest on one of the others.
+fn lens_of(outputs: &[Output]) -> (usize, usize) {
+    let mut all = 0usize;
+    let mut fewest = usize::MAX;
+    for (at, output) in outputs.iter().enumerate() {
+        let len = len_of(output);
+        if at % 2 == 0 {
+            all = all.saturating_add(len);
+        } else {
+            fewest = len.min(fewest);
+        }
+    }
+    (all, fewest)
+}
+
+/// Of forty connections every second one could always go on, and the others wait for a reply. In each row: the key of the one whose reply is
+/// ready, which is reported; and, after one turn, how many octets are written on all that wait, and the fewest that are written on one that
+/// could go on. These are 96 in its first share, and 192 in each after it.
+const ROUNDS: [(Option<usize>, usize, usize); 7] = [
+    // All are served once they have come. Later sixteen of the twenty are served in a turn, so that each is in two.
+    (None, 0, 96),
+    (None, 0, 96),
+    (None, 0, 288),
+    // One that is reported is served at once, though others haven't had their turn.
+    (Some(0), 3, 288),
+    (None, 3, 480),
+    (Some(2), 6, 480),
+    (None, 6, 672),
+];
+
+#[test]
+fn each_has_its_turn(rt: HostRuntime) -> Result<(), Fail> {
+    let alloc = rt.alloc();
+    let key = Cell::new(None);
+    let poll = TellingPoll {
+        poll: Poll::new(alloc, 0),
+        key: &key,
+    };
+    let comers = Comers {
+        even: &[0, 1, b'a'],
+        times: 1_000,
+        size: 4_096,
+        may_block: false,
+        ..Comers::new(alloc, 40, &[0, 1, b'u'])
+    };
+    let mut worker = Running::new(alloc, poll, comers)?;
+    worker.turns = EventLoop::new(alloc, 128, 1)?;
+    for (at, (made, all, fewest)) in ROUNDS.into_iter().enumerate() {
+        key.set(made);
+        begin_row(&mut worker.echo, made);
+        worker.turn(&rt, 1)?;
+        assert_eq!(rt; lens_of(worker.outputs()), (all, fewest), "in row {at}");
     }
     Ok(())
 }

@@ -360,3 +360,19 @@ fn each_connection_has_the_rights_of_its_peer(rt: HostRuntime) -> Result<(), Fai
     assert_eq!(rt; gone.as_slice(), replies.as_slice());
     Ok(())
 }
+
+// Of the requests that are read at once, 32 are answered in a share, and the connection could go on.
+#[test]
+fn a_share_ends(rt: HostRuntime) -> Result<(), Fail> {
+    let mut served = Served::new(rt.alloc())?;
+    let stream = Pieces {
+        size: 4_096,
+        may_block: false,
+        ..Pieces::new(rt.alloc(), &[0, 1, b'a'], 1_000)?
+    };
+    served.put(stream, true, 0)?;
+    served.serve(&rt, &[0], 0)?;
+    let gone = written(rt.alloc(), &served.outputs)?;
+    assert_eq!(rt; (gone.len(), served.next.len()), (96, 1));
+    Ok(())
+}

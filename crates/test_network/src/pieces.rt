@@ -77,7 +77,7 @@ pub(crate) fn open_of(outputs: &[Output]) -> usize {
 }
 
 /// How many octets are on an output.
-fn len_of(output: &Output) -> usize {
+pub(crate) fn len_of(output: &Output) -> usize {
     match output.try_borrow() {
         Ok(octets) => octets.len(),
         Err(_) => 0,

@@ -1,6 +1,7 @@
 //! Requests in datagrams held in memory (RFC 1035, 4.2.1), with the octets that RFC 1035, 4 gives for them, written by hand.
-use crate::served::{Course, first_wrong};
+use crate::served::{Course, first_wrong, outcome};
 use crate::streams::ALL;
+use crate::submitted::MOST;
 use dns_engine::{FirstZone, VersionReader};
 use memory_devices::{
     Datagram, MemoryDatagrams, NoLog, OpenGate, answer_datagrams, asker, octets_of, rules_if,
@@ -9,7 +10,8 @@ use requests::{Allowed, Datagrams, DatagramsEnd, Gate};
 use serve_core::{Peer, Transport};
 use std::alloc::Global;
 use std::sync::Wait;
-use zone_server::{DatagramHandler, Server, ServerName, ServiceLog};
+use update_batches::Queue;
+use zone_server::{DatagramHandler, Server, ServerName, ServiceLog, UpdateSender};
 
 /// A query for an alias, and its reply: the alias and the address of its target (RFC 1035, 4.1).
 const WWW: &str = "12340100000100000000000003777777076578616d706c6504746573740000010001";
@@ -62,6 +64,14 @@ const NOPE_REPLY: &str =
 const HEADER: &str = "123401000001000000000000";
 
 const FORMERR: &str = "123481010000000000000000";
+
+/// The reply SERVFAIL to the update above.
+const FULL: &str = "4321a8020000000000000000";
+
+/// An update without its zone, and the reply FORMERR (RFC 2136, 3.1.1).
+const NO_ZONE: &str = "432128000000000000000000";
+
+const NO_ZONE_REPLY: &str = "4321a8010000000000000000";
 
 /// A row for datagrams.
 #[derive(Clone, Copy)]
@@ -255,14 +265,15 @@ fn is_sent(alloc: Global, sent: &[Datagram], right: &[(u16, &str)]) -> Option<bo
     Some(true)
 }
 
-/// Answers a row's datagrams from a server, with one of the readers, which it puts back. Returns how the answering ended, and the datagrams
-/// that are left and sent. None if memory allocation fails or there is no reader.
+/// Answers a row's datagrams from a server, with one of the readers, which it puts back. With a sender, updates are submitted. Returns how the
+/// answering ended, and the datagrams that are left and sent. None if memory allocation fails or there is no reader.
 pub(crate) fn serve<R: Wait, Z: FirstZone, N: ServerName, L: ServiceLog, G: Gate>(
     rt: &R,
     alloc: Global,
     server: &Server<'_, Z, N>,
     readers: &mut Vec<VersionReader<N>>,
     row: &Row,
+    sender: Option<UpdateSender<'_>>,
     log: &L,
     gate: &G,
 ) -> Option<(DatagramsEnd, MemoryDatagrams)> {
@@ -270,6 +281,9 @@ pub(crate) fn serve<R: Wait, Z: FirstZone, N: ServerName, L: ServiceLog, G: Gate
     let reader = readers.pop()?;
     let peer = Peer::over(Transport::Udp, false);
     let mut asked = DatagramHandler::new(alloc, server, reader, log, peer, asker(0));
+    if let Some(sender) = sender {
+        asked = asked.with_sender(sender);
+    }
     let mut request = [0u8; 65_535];
     let mut out = [0u8; 65_535];
     let rules = rules_if(alloc, row.may)?;
@@ -288,6 +302,17 @@ pub(crate) fn serve<R: Wait, Z: FirstZone, N: ServerName, L: ServiceLog, G: Gate
     Some(served)
 }
 
+/// Updates for a queue that has room for the first. That one is judged later, and each of the others gets its reply at once.
+const SUBMITTED: Row = Row {
+    may: true,
+    most: 3,
+    refused: &[],
+    requests: &[UPDATE, UPDATE, NO_ZONE],
+    end: DatagramsEnd::Done,
+    faults: 0,
+    sent: &[(1, FULL), (2, NO_ZONE_REPLY)],
+};
+
 /// Whether a row's datagrams go as the row says.
 pub(crate) fn go<R: Wait, Z: FirstZone, N: ServerName>(
     rt: &R,
@@ -295,10 +320,26 @@ pub(crate) fn go<R: Wait, Z: FirstZone, N: ServerName>(
     server: &Server<'_, Z, N>,
     readers: &mut Vec<VersionReader<N>>,
     row: &Row,
+    sender: Option<UpdateSender<'_>>,
 ) -> Option<bool> {
-    let (end, datagrams) = serve(rt, alloc, server, readers, row, &NoLog, &OpenGate)?;
+    let (end, datagrams) = serve(rt, alloc, server, readers, row, sender, &NoLog, &OpenGate)?;
     let is_sent = is_sent(alloc, datagrams.sent(), row.sent)?;
     Some(is_sent && end == row.end && datagrams.faults() == row.faults)
+}
+
+/// Whether the datagrams of `SUBMITTED` go as it says.
+pub(crate) fn submit<R: Wait, Z: FirstZone, N: ServerName>(
+    rt: &R,
+    alloc: Global,
+    server: &Server<'_, Z, N>,
+    readers: &mut Vec<VersionReader<N>>,
+) -> Option<bool> {
+    let queue = Queue::new(alloc, MOST).ok()?;
+    let sender = UpdateSender {
+        queue: &queue,
+        worker: 1,
+    };
+    go(rt, alloc, server, readers, &SUBMITTED, Some(sender))
 }
 
 // The replies are in the order of their requests, each to the client that sent the request. A send that fails is counted, and the next request
@@ -307,4 +348,13 @@ pub(crate) fn go<R: Wait, Z: FirstZone, N: ServerName>(
 fn datagrams(rt: HostRuntime) {
     assert_eq!(rt; first_wrong(&rt, rt.alloc(), ALL, DATAGRAMS), None);
     assert_eq!(rt; first_wrong(&rt, rt.alloc(), 2, SPENT), None);
+}
+
+// An update that isn't queued, since there is no room or it can't be read, gets its reply.
+#[test]
+fn updates_that_are_not_queued(rt: HostRuntime) {
+    assert_eq!(rt;
+        outcome(&rt, rt.alloc(), ALL, 0, &Course::Submitted),
+        Some(true)
+    );
 }

@@ -60,7 +60,16 @@ pub(crate) fn go<R: Wait, Z: FirstZone, N: ServerName>(
         digits: AtomicU64::new(0),
     };
     let _ = streams::serve(rt, alloc, server, readers, &ON_A_STREAM, &calls, &calls)?;
-    let _ = datagrams::serve(rt, alloc, server, readers, &TWO_UPDATES, &calls, &calls)?;
+    let _ = datagrams::serve(
+        rt,
+        alloc,
+        server,
+        readers,
+        &TWO_UPDATES,
+        None,
+        &calls,
+        &calls,
+    )?;
     Some(calls.digits.load(Ordering::SeqCst) == 123_123_123_123)
 }
 

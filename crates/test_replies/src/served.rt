@@ -13,6 +13,8 @@ pub(crate) enum Course {
     Stream(streams::Row),
     /// The datagrams of a row.
     Datagrams(datagrams::Row),
+    /// Datagrams with updates that are submitted.
+    Submitted,
     /// The tests of `gone_versions`, `orders` and `slots`.
     OwnedAWhile,
     FourUpdates,
@@ -33,7 +35,8 @@ impl Course {
     ) -> Option<bool> {
         match self {
             Course::Stream(row) => streams::go(rt, alloc, server, readers, row),
-            Course::Datagrams(row) => datagrams::go(rt, alloc, server, readers, row),
+            Course::Datagrams(row) => datagrams::go(rt, alloc, server, readers, row, None),
+            Course::Submitted => datagrams::submit(rt, alloc, server, readers),
             Course::OwnedAWhile => gone_versions::go(rt, alloc, server, readers),
             Course::FourUpdates => orders::go(rt, alloc, server, readers),
             Course::AllSlots => slots::go(rt, alloc, server, readers),

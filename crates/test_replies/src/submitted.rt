@@ -16,7 +16,7 @@ const UPDATE: &str =
     "432128000001000000010000076578616d706c6504746573740000060001036e6577c00c0001000100000e100004c000020b";
 
 /// The limits of the queue: it has room for one such update, of 50 octets and one record.
-const MOST: Most = Most {
+pub(crate) const MOST: Most = Most {
     items: 8,
     octets: 739,
 };

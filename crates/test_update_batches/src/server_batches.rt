@@ -22,6 +22,8 @@ enum Run {
     ThreeUpdates,
     /// A publisher that begins, and ends.
     Publisher,
+    /// Tickets that are closed, or abandoned, and opened again.
+    Tickets,
 }
 
 /// The result of the batch.
@@ -199,6 +201,61 @@ fn begin_publisher<R: Wait, Z: FirstZone, N: ServerName>(
     }
 }
 
+/// Whether a ticket that was closed is opened again, and so is one that was abandoned, once the result of its update has come; and the reader.
+/// None if memory allocation fails.
+fn open_again<R: Wait, Z: FirstZone, N: ServerName>(
+    rt: &R,
+    alloc: Global,
+    server: &Server<'_, Z, N>,
+    mut reader: VersionReader<N>,
+    right: PublishRight<N>,
+) -> (Option<bool>, Option<VersionReader<N>>) {
+    let log = Kept::new(alloc);
+    let most = Most {
+        items: 8,
+        octets: 8,
+    };
+    let Ok(queue) = Queue::<QueuedUpdate>::new(alloc, most) else {
+        return (None, Some(reader));
+    };
+    let Some(first) = next_ticket(rt, server, &mut reader) else {
+        return (None, Some(reader));
+    };
+    let (_, Some(opened)) = server.open(rt, &mut reader) else {
+        return (None, Some(reader));
+    };
+    let ticket = opened.number();
+    let reply_to = ReplyTo::Connection {
+        worker: 1,
+        key: 70,
+        ticket,
+    };
+    let Some(put) = put(rt, alloc, &queue, ADD_1, reply_to) else {
+        server.close(rt, opened);
+        return (None, Some(reader));
+    };
+    server.leave(rt, opened.waits(&put));
+    let (mut reader, _) = match turn_once(rt, alloc, server, reader, right, &queue, &log) {
+        Ok(turned) => turned,
+        Err(outcome) => return outcome,
+    };
+    let last = next_ticket(rt, server, &mut reader);
+    (Some(ticket == first && last == Some(first)), Some(reader))
+}
+
+/// The number of the ticket that is opened next, which is closed. None if there is none.
+fn next_ticket<R: Wait, Z: FirstZone, N: ServerName>(
+    rt: &R,
+    server: &Server<'_, Z, N>,
+    reader: &mut VersionReader<N>,
+) -> Option<usize> {
+    let (_, opened) = server.open(rt, reader);
+    let opened = opened?;
+    let ticket = opened.number();
+    server.close(rt, opened);
+    Some(ticket)
+}
+
 impl Run {
     /// Runs it. Gives whether it passes, None if memory allocation fails, and the reader.
     fn run<R: Wait, Z: FirstZone, N: ServerName>(
@@ -212,6 +269,7 @@ impl Run {
         match self {
             Run::ThreeUpdates => judge_three(rt, alloc, server, reader, right),
             Run::Publisher => begin_publisher(rt, alloc, server, reader, right),
+            Run::Tickets => open_again(rt, alloc, server, reader, right),
         }
     }
 }
@@ -274,4 +332,10 @@ fn a_publisher_where_memory_is_refused(rt: HostRuntime) {
         None => passes(&rt, rt.alloc(), Run::Publisher),
     };
     assert!(rt; passed == Some(true));
+}
+
+// A ticket that is closed, or abandoned, is free again.
+#[test]
+fn tickets_are_opened_again(rt: HostRuntime) {
+    assert!(rt; passes(&rt, rt.alloc(), Run::Tickets) == Some(true));
 }
