@@ -184,7 +184,7 @@ fn reason_of(alloc: Global, fault: PrepareFault) -> Result<String, AllocError> {
     match fault {
         PrepareFault::Change(fault) => format!(in alloc; "{fault}"),
         PrepareFault::TooLarge => format!(in alloc;
-            "the change has more records than one update may have: stop the server, and start it with --take zone"
+            "the change has more records than one update may have: stop the server, and start it anew, with --store a new directory where there is a store"
         ),
         PrepareFault::NoMemory => format!(in alloc; "out of memory"),
     }
