@@ -312,6 +312,27 @@ rm -rf "$room/wide"
 mkdir "$room/wide"
 row 1 'line 11: M5 UnknownType' serve --wide --listen 127.0.0.1:0 --workers 1 --count 0 --origin x. --store "$room/wide" --take store "$room/zone"
 
+# a file that is a zone without the option is the same text with it: a store that was begun without it is found by a start with it, and the other way
+# round. It isn't written as the option writes plain text
+printf '%s' $'; a remark\n$TTL 5\n@ SOA a b ( 1 2 3\n  4 5 )\n  NS a\n' >"$room/plain"
+for first in '' --wide; do
+    next=--wide
+    [ -z "$first" ] || next=
+    rm -rf "$room/wide"
+    mkdir "$room/wide"
+    # shellcheck disable=SC2086
+    row 0 "created the store '$room/wide' from ZONE" serve $first --listen 127.0.0.1:0 --workers 1 --count 0 --origin x. --store "$room/wide" "$room/plain"
+    # shellcheck disable=SC2086
+    tries serve $next --listen 127.0.0.1:0 --workers 1 --count 0 --origin x. --store "$room/wide" "$room/plain"
+    [[ $got == 0 && $told != *ZONE* && $told == *'x. with serial 1, 2 records'* ]] || differs 'the store of the same file' serve "$next" --store
+done
+# with a byte order mark it isn't, and the store has what is made of it
+printf '\xef\xbb\xbf' | cat - "$room/plain" >"$room/marked"
+rm -rf "$room/wide"
+mkdir "$room/wide"
+row 0 "created the store '$room/wide' from ZONE" serve --wide --listen 127.0.0.1:0 --workers 1 --count 0 --origin x. --store "$room/wide" "$room/marked"
+row 0 $'x. 5 IN SOA a.x. b.x. 1 2 3 4 5\nx. 5 IN NS a.x.\n' zone "$room/wide"
+
 # files that are included (RFC 1035, 5.1): names are relative to the origin after the path, or to that in force; after a file origin, owner and TTLs are as
 # before it. A path is relative to the directory of the file that names it. By hand; named-compilezone has the same zone where each file sets no $TTL
 rm -rf "$room/parts"

@@ -44,7 +44,9 @@ pub(crate) struct RefusedFile {
 
 impl ZoneText {
     /// The text of a source, with the files that it includes; `is_wide` is whether it is read as other servers read zone files, its names relative to the
-    /// origin: a byte order mark at its start is passed over then. Each command reads by this function, and a server at its start and at a reload.
+    /// origin: a byte order mark at its start is passed over then. A text without that mark that is a zone as it is stays as it is, since it is the same
+    /// zone as a zone file: so a store that was created from it is that of the same text whether or not it is read so. Each command reads by this
+    /// function, and a server at its start and at a reload.
     pub(crate) fn of(
         alloc: Global,
         source: Vec<u8>,
@@ -60,6 +62,13 @@ impl ZoneText {
             });
         }
         let text = without_mark(source.as_slice());
+        if text.len() == source.len() && read_zone(alloc, text, origin).is_ok() {
+            return Ok(ZoneText {
+                source,
+                includes,
+                reading: Reading::Plain,
+            });
+        }
         match plain_text(alloc, includes.files.as_slice(), text, origin) {
             Ok(plain) => Ok(ZoneText {
                 source,
