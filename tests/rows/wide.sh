@@ -117,8 +117,9 @@ says 1 'line 4: M5 UnknownType
 a type is due, by a name that is known here or by its number: `x. 1h CAAA 0 issue "a"`' check --wide -
 
 # words of types (RFC 1035, 3.3.2; RFC 1183; RFC 3403, 4; RFC 4398, 2; RFC 4034, 5.4; RFC 4255, 3; RFC 4701, 3.6; RFC 6698, 2.2; RFC 7344, 3; RFC 7553, 4;
-# RFC 7929, 2.3; RFC 8659, 4.1; RFC 9460, 2.1), as BIND's named-rrchecker has their data
-wide '' --origin x. <<'end'
+# RFC 7929, 2.3; RFC 8659, 4.1; RFC 9460, 2.1), as BIND's named-rrchecker has their data. Of a DNAME, of which no answer is made, a line warns
+dname='warning: DNAME records, which have no effect on answers: '
+wide "${dname}1" --origin x. <<'end'
 $TTL 5
 @ SOA a b 1 2 3 4 5
 @ NS a
@@ -245,6 +246,34 @@ b.x. 7 IN A 192.0.2.1
 end
 input=$'x. NS a.\nx. SOA a. b. 1 2 3 4 5\n'
 refuses 1 'line 1: M8 NoTtl' check --wide -
+
+# a line has how many DNAME records there are, by their word or their number, after the file's name: also of a file that is a zone without the option, where
+# nothing is told without it. What looks like one in a TXT, and an owner with a blank, are none
+wide "${dname}3" --origin x. <<'end'
+$TTL 1h
+@ SOA a b 1 2 3 4 5
+@ NS a
+a DNAME b
+a TXT "x 1 IN TYPE39"
+a\032 1 TXT TYPE39
+b TYPE39 \# 1 00
+c 1m dname c.d.
+=>
+x. 3600 IN SOA a.x. b.x. 1 2 3 4 5
+x. 3600 IN NS a.x.
+a.x. 3600 IN TXT "x 1 IN TYPE39"
+a.x. 3600 IN TYPE39 \# 5 0162017800
+a\032.x. 1 IN TXT "TYPE39"
+b.x. 3600 IN TYPE39 \# 1 00
+c.x. 60 IN TYPE39 \# 5 0163016400
+end
+printf '%s' $'$TTL 5\n@ SOA a b 1 2 3 4 5\n@ NS a\nb TYPE39 \\# 1 00\nb TYPE40 \\# 1 00\n' >"$room/plain"
+input=
+row 0 "listening on 127.0.0.1:" serve --wide --listen 127.0.0.1:0 --workers 1 --count 0 --origin x. "$room/plain"
+[[ $told == "$room/plain: ${dname}1"$'\n'* ]] || differs "$room/plain: ${dname}1" serve --wide
+tries check --wide --origin x. "$room/plain"
+[[ $got == 0 && $told == "$room/plain: ${dname}1"$'\n' ]] || differs "$room/plain: ${dname}1" check --wide
+prints "${said%$'\n'}" check --origin x. "$room/plain"
 
 # records of signers are left out, and their number is told; owner and TTL stay in force after them, and octets after \# are kept
 left='records left out (RRSIG, NSEC, NSEC3, NSEC3PARAM): '
@@ -425,7 +454,8 @@ p.x. 5 IN TYPE65280 \# 2 0102
 q.x. 5 IN SPF "v=spf1 -all" "more \"quoted\" \\ \007"
 r.x. 5 IN MX 10 a.x.'
 input=$words$'\n'
-prints "$words" check --wide --words -
+tries check --wide --words -
+[[ $got == 0 && $said == "$words"$'\n' && $told == "${dname}1"$'\n' ]] || differs "$words" check --wide --words -
 tries check --wide -
 input=$said
 printf '%s' "$said" >"$room/plain"

@@ -1,7 +1,7 @@
 //! The thread that reads the zone file again while its zone is served.
 use crate::file_report::words_of;
 use crate::includes::Includes;
-use crate::zone_file::tell_left_out;
+use crate::zone_file::tell_notes;
 use crate::zone_text::ZoneText;
 use commands::Source;
 use dns_engine::SharedVersion;
@@ -123,7 +123,7 @@ fn read_anew<R: Files + Env + Eprint + AllocGlobal>(
     made_of(alloc, served, read)
 }
 
-/// The zone of the file's text, with the files that it includes, or why it is refused. Standard error has how many records are left out.
+/// The zone of the file's text, with the files that it includes, or why it is refused. Standard error has what is to be said of its records.
 fn zone_of<R: Files + Env + Eprint + AllocGlobal>(
     rt: &R,
     source: Vec<u8>,
@@ -140,8 +140,8 @@ fn zone_of<R: Files + Env + Eprint + AllocGlobal>(
     };
     match text.zone(alloc, &file.origin) {
         Ok(zone) => {
-            let (mark, source) = (Level::Notice.mark_for(rt), Source::File(file.path.as_str()));
-            let _ = tell_left_out(rt, mark, source, &text);
+            let marks = (Level::Notice.mark_for(rt), Level::Warning.mark_for(rt));
+            let _ = tell_notes(rt, marks, Source::File(file.path.as_str()), &text);
             Ok(zone)
         }
         Err(fault) => Err(text.words(alloc, fault)),
