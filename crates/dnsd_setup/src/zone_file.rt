@@ -102,7 +102,7 @@ fn tell_wide<R: Eprint + AllocGlobal>(
 }
 
 /// Reports on standard error how many records are left out of a text, and how many have no effect, if there are any: a line each, after its mark.
-pub(crate) fn tell_notes<R: Eprint + AllocGlobal>(
+fn tell_notes<R: Eprint + AllocGlobal>(
     rt: &R,
     marks: (&str, &str),
     source: Source<'_>,
