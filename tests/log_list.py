@@ -9,7 +9,7 @@ ROOT = os.path.dirname(os.path.dirname(os.path.abspath(__file__)))
 FILES = """
 command_line/src/start_fault.rt dnsd/src/main.rt dnsd/src/secondaries.rt dnsd_setup/src/bound.rt dnsd_setup/src/control.rt dnsd_setup/src/keys.rt
 dnsd_setup/src/kept.rt dnsd_setup/src/lines.rt dnsd_setup/src/may.rt dnsd_setup/src/metrics.rt dnsd_setup/src/peer_lines.rt dnsd_setup/src/reload.rt
-dnsd_setup/src/writer.rt server_control/src/control_job.rt server_control/src/control_reload.rt server_control/src/control_text.rt
+dnsd_setup/src/writer.rt dnsd_setup/src/zone_text.rt server_control/src/control_job.rt server_control/src/control_reload.rt server_control/src/control_text.rt
 server_control/src/serve_fault.rt store_compaction/src/compacted_store.rt store_server/src/event.rt zone_server/src/service_log.rt
 """.split()
 

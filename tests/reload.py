@@ -3,10 +3,11 @@
 with one frame of the journal and one NOTIFY, whatever its size; secondaries get it by IXFR. Beside queries, transfers, updates and reloads, each whole transfer is one of
 the zones that were deployed, with the updates that were answered since, and never a part. Killed at random moments of reloads, the store has the zone before or that of
 the file. With --wide it is read as at the start, with the files that it includes. A second reload meanwhile, a file that is no zone and another apex are refused, and change nothing; the socket is its owner's alone, and a client that says nothing
-stops nothing. Usage: [DNSD=PROGRAM] tests/reload.py [KILLS [RECORDS [HOSTS]]], by default 20 kills, 100,000 records in the one large change, and 2,000 hosts in the
+stops nothing, nor does a standard error that nobody reads. Usage: [DNSD=PROGRAM] tests/reload.py [KILLS [RECORDS [HOSTS]]], by default 20 kills, 100,000 records in the one large change, and 2,000 hosts in the
 zones that are reloaded beside queries, by the program crates/dnsd/out/dnsd; a program compiled with checks is slower, and needs fewer. It listens on 127.0.0.1 alone. Its status is 1 where something failed."""
 import os
 import random
+import select
 import signal
 import socket
 import stat
@@ -317,6 +318,30 @@ def tries_included(room):
     report("b.x. 3600 IN A 192.0.2.3" in zone_of(room), f"the store has the files' zone: {zone_of(room)!r}")
 
 
+def tries_blocked(room):
+    """A standard error that nobody reads stops no reload, though a line is due of what is left out of the file."""
+    written(f"{room}/zone", wide_text(1, ""))
+    ours, theirs = os.pipe()
+    words = [program, "serve", "--wide", "--origin", "x.", "--listen", "127.0.0.1:0", "--workers", "1", "--control", f"{room}/control", f"{room}/zone"]
+    server = subprocess.Popen(words, stderr=theirs)
+    told = b""
+    while b"listening on" not in told and select.select([ours], [], [], 60)[0]:
+        told += os.read(ours, 4096)
+    # more than the pipe takes: the thread waits until the end
+    threading.Thread(target=os.write, args=(theirs, b"\n" * (1 << 20)), daemon=True).start()
+    while select.select([], [theirs], [], 0)[1]:
+        time.sleep(0.1)
+    written(f"{room}/zone", wide_text(2, 'a 5m CAA 0 issue ";"\n'))
+    try:
+        done = subprocess.run([program, "control", f"{room}/control", "reload"], capture_output=True, text=True, timeout=60)
+        said = done.returncode, done.stdout, done.stderr
+    except subprocess.TimeoutExpired:
+        said = "nothing in a minute"
+    report(said == (0, "serial 1 to 2, 0 records deleted, 1 added\n", ""), f"a reload beside a standard error that nobody reads: {said}")
+    server.kill()
+    server.wait()
+
+
 def caa_of(room):
     """The lines of a store's CAA records."""
     return [line for line in zone_of(room).splitlines(True) if " TYPE257 " in line]
@@ -436,6 +461,7 @@ def main():
         tries_commands,
         tries_wide,
         tries_included,
+        tries_blocked,
         lambda room: tries_large(room, records // 2),
         lambda room: tries_beside(room, 15, hosts),
         lambda room: tries_kills(room, kills, hosts * 5 // 2),

@@ -126,8 +126,9 @@ says 1 'line 4: M5 UnknownType
 a type is due, by a name that is known here or by its number: `x. 1h CAAA 0 issue "a"`' check --wide -
 
 # words of types (RFC 1035, 3.3.2; RFC 1183; RFC 3403, 4; RFC 4398, 2; RFC 4034, 5.4; RFC 4255, 3; RFC 4701, 3.6; RFC 6698, 2.2; RFC 7344, 3; RFC 7553, 4;
-# RFC 7929, 2.3; RFC 8659, 4.1; RFC 9460, 2.1), as BIND's named-rrchecker has their data
-wide '' --origin x. <<'end'
+# RFC 7929, 2.3; RFC 8659, 4.1; RFC 9460, 2.1), as BIND's named-rrchecker has their data. Of a DNAME, of which no answer is made, a line warns
+dname='warning: DNAME records, which have no effect on answers: '
+wide "${dname}1" --origin x. <<'end'
 $TTL 5
 @ SOA a b 1 2 3 4 5
 @ NS a
@@ -314,6 +315,34 @@ end
 input=$'x. NS a.\nx. SOA a. b. 1 2 3 4 5\n'
 refuses 1 'line 1: M8 NoTtl' check --wide -
 
+# a line has how many DNAME records there are, by their word or their number, after the file's name: also of a file that is a zone without the option, where
+# nothing is told without it. What looks like one in a TXT, and an owner with a blank, are none
+wide "${dname}3" --origin x. <<'end'
+$TTL 1h
+@ SOA a b 1 2 3 4 5
+@ NS a
+a DNAME b
+a TXT "x 1 IN TYPE39"
+a\032 1 TXT TYPE39
+b TYPE39 \# 1 00
+c 1m dname c.d.
+=>
+x. 3600 IN SOA a.x. b.x. 1 2 3 4 5
+x. 3600 IN NS a.x.
+a.x. 3600 IN TXT "x 1 IN TYPE39"
+a.x. 3600 IN TYPE39 \# 5 0162017800
+a\032.x. 1 IN TXT "TYPE39"
+b.x. 3600 IN TYPE39 \# 1 00
+c.x. 60 IN TYPE39 \# 5 0163016400
+end
+printf '%s' $'$TTL 5\n@ SOA a b 1 2 3 4 5\n@ NS a\nb TYPE39 \\# 1 00\nb TYPE40 \\# 1 00\n' >"$room/plain"
+input=
+row 0 "listening on 127.0.0.1:" serve --wide --listen 127.0.0.1:0 --workers 1 --count 0 --origin x. "$room/plain"
+[[ $told == "$room/plain: ${dname}1"$'\n'* ]] || differs "$room/plain: ${dname}1" serve --wide
+tries check --wide --origin x. "$room/plain"
+[[ $got == 0 && $told == "$room/plain: ${dname}1"$'\n' ]] || differs "$room/plain: ${dname}1" check --wide
+prints "${said%$'\n'}" check --origin x. "$room/plain"
+
 # records of signers are left out, and their number is told; owner and TTL stay in force after them, and octets after \# are kept
 left='records left out (RRSIG, NSEC, NSEC3, NSEC3PARAM): '
 wide "${left}5, the first on line 2" --origin x. <<'end'
@@ -379,6 +408,27 @@ row 0 'ignoring ZONE' serve --wide --listen 127.0.0.1:0 --workers 1 --count 0 --
 rm -rf "$room/wide"
 mkdir "$room/wide"
 row 1 'line 11: M5 UnknownType' serve --wide --listen 127.0.0.1:0 --workers 1 --count 0 --origin x. --store "$room/wide" --take store "$room/zone"
+
+# a file that is a zone without the option is the same text with it: a store that was begun without it is found by a start with it, and the other way
+# round. It isn't written as the option writes plain text
+printf '%s' $'; a remark\n$TTL 5\n@ SOA a b ( 1 2 3\n  4 5 )\n  NS a\n' >"$room/plain"
+for first in '' --wide; do
+    next=--wide
+    [ -z "$first" ] || next=
+    rm -rf "$room/wide"
+    mkdir "$room/wide"
+    # shellcheck disable=SC2086
+    row 0 "created the store '$room/wide' from ZONE" serve $first --listen 127.0.0.1:0 --workers 1 --count 0 --origin x. --store "$room/wide" "$room/plain"
+    # shellcheck disable=SC2086
+    tries serve $next --listen 127.0.0.1:0 --workers 1 --count 0 --origin x. --store "$room/wide" "$room/plain"
+    [[ $got == 0 && $told != *ZONE* && $told == *'x. with serial 1, 2 records'* ]] || differs 'the store of the same file' serve "$next" --store
+done
+# with a byte order mark it isn't, and the store has what is made of it
+printf '\xef\xbb\xbf' | cat - "$room/plain" >"$room/marked"
+rm -rf "$room/wide"
+mkdir "$room/wide"
+row 0 "created the store '$room/wide' from ZONE" serve --wide --listen 127.0.0.1:0 --workers 1 --count 0 --origin x. --store "$room/wide" "$room/marked"
+row 0 $'x. 5 IN SOA a.x. b.x. 1 2 3 4 5\nx. 5 IN NS a.x.\n' zone "$room/wide"
 
 # files that are included (RFC 1035, 5.1): names are relative to the origin after the path, or to that in force; after a file origin, owner and TTLs are as
 # before it. A path is relative to the directory of the file that names it. By hand; named-compilezone has the same zone where each file sets no $TTL
@@ -472,7 +522,8 @@ p.x. 5 IN TYPE65280 \# 2 0102
 q.x. 5 IN SPF "v=spf1 -all" "more \"quoted\" \\ \007"
 r.x. 5 IN MX 10 a.x.'
 input=$words$'\n'
-prints "$words" check --wide --words -
+tries check --wide --words -
+[[ $got == 0 && $said == "$words"$'\n' && $told == "${dname}1"$'\n' ]] || differs "$words" check --wide --words -
 tries check --wide -
 input=$said
 printf '%s' "$said" >"$room/plain"

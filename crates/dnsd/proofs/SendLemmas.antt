@@ -8,10 +8,11 @@ use Rattle.std.proofs.Common.{ℕ, List, [], ◌∷◌}
 use Rattle.std.proofs.Crossing as crossing
 use Rattle.std.specs.contracts.rt.LibcRuntime as runtime
 use Rattle.server_control.proofs.SendLemmas.{slot_send, slot_sync}
+use Rattle.dnsd_setup.proofs.writer.Shared.TheSendSync as shared
 use Rattle.dnsd_setup.specs.contracts.reload.FileReader as reader
 
 pub reader_send : IsSend reader.the_row
-reader_send = search (slot_send, slot_sync, array_vec.the_send, crossing.crosses, sendable) depth 60 fits 20000
+reader_send = search (slot_send, slot_sync, shared.the_send, shared.the_sync, array_vec.the_send, crossing.crosses, sendable) depth 60 fits 20000
 
 pub runtime_send : IsSend runtime.the_row
 runtime_send = search (crossing.crosses, sendable) depth 60 fits 20000

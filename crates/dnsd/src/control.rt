@@ -2,7 +2,9 @@
 use crate::metrics::{beside_of, control_work_of, drops_for, process_for, started};
 use command_line::Serve;
 use commands::Source;
-use dnsd_setup::{FileReader, StartedZone, bind_control_at, prepare_reloads, remove_control};
+use dnsd_setup::{
+    Entries, FileReader, StartedZone, bind_control_at, prepare_reloads, remove_control,
+};
 use server_control::{ControlPlan, MetricsPlan};
 use std::alloc::AllocError;
 use std::fs::{File, Files};
@@ -16,12 +18,17 @@ use std::time::Clock;
 #[derive(Clone, Copy)]
 pub struct NotBound;
 
-/// Binds the control socket, if there is to be one, and starts the thread that reads the zone file for reloads, by `start`. What a thread needs that takes commands.
-/// An error is lack of memory, or of a thread.
+/// Binds the control socket, if there is to be one, and starts the thread that reads the zone file for reloads, by `start`, with the queue of the log's
+/// thread. What a thread needs that takes commands. An error is lack of memory, or of a thread.
 pub fn control_for<
     R: Files<File = File> + Env + Eprint + AllocGlobal + Net + Clock,
     S: Fn(FileReader) -> io::Result<()>,
->(rt: &R, serve: &Serve<'_>, start: &S) -> io::Result<Result<Option<ControlPlan>, NotBound>>
+>(
+    rt: &R,
+    serve: &Serve<'_>,
+    entries: &Entries,
+    start: &S,
+) -> io::Result<Result<Option<ControlPlan>, NotBound>>
     requires { (f : _) (x : _) → S.pre f x }
 {
     let Some(path) = serve.control else {
@@ -32,7 +39,7 @@ pub fn control_for<
         Ok(None) => return Ok(Err(NotBound)),
         Err(fault) => return Err(fault),
     };
-    match plan_for(rt, serve, listener, start) {
+    match plan_for(rt, serve, listener, entries, start) {
         Ok(plan) => Ok(Ok(Some(plan))),
         Err(fault) => {
             remove_control(rt, path);
@@ -46,6 +53,7 @@ fn plan_for<R: Files<File = File> + AllocGlobal + Clock, S: Fn(FileReader) -> io
     rt: &R,
     serve: &Serve<'_>,
     listener: UnixListener,
+    entries: &Entries,
     start: &S,
 ) -> io::Result<ControlPlan>
     requires { (f : _) (x : _) → S.pre f x }
@@ -53,7 +61,8 @@ fn plan_for<R: Files<File = File> + AllocGlobal + Clock, S: Fn(FileReader) -> io
     let reloads = match serve.zone {
         Source::Input => None,
         Source::File(path) => {
-            let (slot, reader) = prepare_reloads(rt.alloc(), path, &serve.origin, serve.is_wide)?;
+            let (origin, is_wide) = (&serve.origin, serve.is_wide);
+            let (slot, reader) = prepare_reloads(rt.alloc(), path, origin, is_wide, entries)?;
             start(reader)?;
             Some(slot)
         }

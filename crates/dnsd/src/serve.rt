@@ -238,7 +238,7 @@ fn bind<
         Ok(entries) => entries,
         Err(fault) => return Err(io::Error::from(fault)),
     };
-    let control = match control_for(rt, serve, start) {
+    let control = match control_for(rt, serve, &entries, start) {
         Ok(Ok(control)) => control,
         Ok(Err(NotBound)) => return Ok(None),
         Err(fault) => return Err(fault),

@@ -13,6 +13,7 @@ mod counted_log;
 mod counted_store;
 mod deploy;
 pub mod descriptors;
+mod dnames;
 mod file_report;
 mod includes;
 mod kept;

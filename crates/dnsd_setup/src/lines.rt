@@ -53,6 +53,10 @@ pub enum LogLine {
     Large(Large),
     /// Updates are lost when the program exits.
     NoStore,
+    /// Records are left out of the zone file that a reload reads.
+    LeftOut(String),
+    /// Records of the zone file that a reload reads have no effect.
+    NoEffect(String),
     /// An event of the service.
     Event(Event),
     /// An event of the store.
@@ -81,6 +85,8 @@ impl Drop for LogLine {
             LogLine::RootApex => {}
             LogLine::Large(_) => {}
             LogLine::NoStore => {}
+            LogLine::LeftOut(_) => {}
+            LogLine::NoEffect(_) => {}
             LogLine::Event(_) => {}
             LogLine::Store(_) => {}
             LogLine::Fault(_) => {}
@@ -92,14 +98,15 @@ impl LogLine {
     /// The level of the line.
     pub fn level(&self) -> Level {
         match self {
-            LogLine::Listening { .. } => Level::Notice,
+            LogLine::Listening { .. } | LogLine::LeftOut(_) => Level::Notice,
             LogLine::Wildcard(_)
             | LogLine::FewDescriptors { .. }
             | LogLine::SmallBuffer { .. }
             | LogLine::Routed
             | LogLine::RootApex
             | LogLine::Large(_)
-            | LogLine::NoStore => Level::Warning,
+            | LogLine::NoStore
+            | LogLine::NoEffect(_) => Level::Warning,
             LogLine::Event(event) => level_of_event(event),
             LogLine::Store(event) => level_of_store(event),
             LogLine::Fault(_) => Level::Error,
@@ -148,6 +155,7 @@ impl Display for LogLine {
                     "updates will be lost when the server stops; use --store DIR to keep them",
                 )
             }
+            LogLine::LeftOut(said) | LogLine::NoEffect(said) => f.write_str(said.as_str()),
             LogLine::Event(event) => write!(f, "{event}"),
             LogLine::Store(event) => write!(f, "{event}"),
             LogLine::Fault(fault) => write!(f, "error: {fault}"),

@@ -1,17 +1,16 @@
 //! The thread that reads the zone file again while its zone is served.
 use crate::file_report::words_of;
 use crate::includes::Includes;
-use crate::zone_file::tell_left_out;
+use crate::lines::LogLine;
+use crate::writer::{Entries, Entry};
 use crate::zone_text::ZoneText;
 use commands::Source;
 use dns_engine::SharedVersion;
 use dns_name::Name;
-use log_lines::Level;
 use server_control::{ReloadOrder, ReloadResult, ReloadSlot, Reloads, file_zone};
 use std::alloc::{AllocError, Global};
 use std::fs::{self, Files};
 use std::io;
-use std::rt::Env;
 use std::sync::{Arc, Wait};
 use update_messages::PrepareFault;
 use zone_tree::Zone;
@@ -20,11 +19,17 @@ use zone_tree::Zone;
 pub struct FileReader {
     slot: Reloads,
     file: ZoneFile,
+    /// The queue of the log's thread.
+    entries: Entries,
 }
 
 impl Drop for FileReader {
     fn drop(self) {
-        let FileReader { slot: _, file: _ } = self;
+        let FileReader {
+            slot: _,
+            file: _,
+            entries: _,
+        } = self;
     }
 }
 
@@ -49,26 +54,33 @@ impl Drop for ZoneFile {
 }
 
 /// Where reloads of the zone file at a path are ordered, and what reads it, with this origin; `is_wide` is whether it is read as other servers read zone
-/// files. Fails if there is not enough memory.
+/// files. What is to be said of its records is queued for the log's thread, so that a blocked standard error stops no reload. Fails if there is not enough
+/// memory.
 pub fn prepare_reloads(
     alloc: Global,
     path: &str,
     origin: &Name,
     is_wide: bool,
+    entries: &Entries,
 ) -> Result<(Reloads, FileReader), AllocError> {
     let slot = Arc::new(alloc, ReloadSlot::new())?;
-    let own = Arc::try_clone(&slot)?;
+    let (own, entries) = (Arc::try_clone(&slot)?, Arc::try_clone(entries)?);
     let file = ZoneFile {
         path: format!(in alloc; "{path}")?,
         origin: origin.copy(),
         is_wide,
     };
-    Ok((slot, FileReader { slot: own, file }))
+    let reader = FileReader {
+        slot: own,
+        file,
+        entries,
+    };
+    Ok((slot, reader))
 }
 
 impl FileReader {
     /// Does what is ordered, until nothing is any more.
-    pub fn run<R: Files + Env + Eprint + AllocGlobal + Wait>(self, rt: &R) {
+    pub fn run<R: Files + AllocGlobal + Wait>(self, rt: &R) {
         let mut read: Option<Zone> = None;
         for _ in rt.forever() {
             let Some(order) = self.slot.wait(rt) else {
@@ -80,7 +92,7 @@ impl FileReader {
     }
 
     /// Does what is ordered. The zone that was read last stays until it is to be dropped.
-    fn obey<R: Files + Env + Eprint + AllocGlobal + Wait>(
+    fn obey<R: Files + AllocGlobal + Wait>(
         &self,
         rt: &R,
         order: ReloadOrder,
@@ -93,7 +105,7 @@ impl FileReader {
             }
             ReloadOrder::Read(served) => {
                 *read = None;
-                let made = read_anew(rt, &self.file, &served, read);
+                let made = read_anew(rt, &self.file, &self.entries, &served, read);
                 self.slot.put(rt, made);
             }
             ReloadOrder::Again(served) => {
@@ -105,9 +117,10 @@ impl FileReader {
 }
 
 /// Reads the file, and makes its update of the zone that is served.
-fn read_anew<R: Files + Env + Eprint + AllocGlobal>(
+fn read_anew<R: Files + AllocGlobal + Wait>(
     rt: &R,
     file: &ZoneFile,
+    entries: &Entries,
     served: &SharedVersion,
     read: &mut Option<Zone>,
 ) -> ReloadResult {
@@ -116,18 +129,19 @@ fn read_anew<R: Files + Env + Eprint + AllocGlobal>(
         Ok(source) => source,
         Err(fault) => return Err(unread(alloc, &file.path, &fault)),
     };
-    match zone_of(rt, source, file) {
+    match zone_of(rt, source, file, entries) {
         Ok(zone) => *read = Some(zone),
         Err(reason) => return Err(reason.unwrap_or(String::new(alloc))),
     }
     made_of(alloc, served, read)
 }
 
-/// The zone of the file's text, with the files that it includes, or why it is refused. Standard error has how many records are left out.
-fn zone_of<R: Files + Env + Eprint + AllocGlobal>(
+/// The zone of the file's text, with the files that it includes, or why it is refused. The log gets what is to be said of its records.
+fn zone_of<R: Files + AllocGlobal + Wait>(
     rt: &R,
     source: Vec<u8>,
     file: &ZoneFile,
+    entries: &Entries,
 ) -> Result<Zone, Result<String, AllocError>> {
     let alloc = rt.alloc();
     let includes = match includes_of(rt, file, &source) {
@@ -140,11 +154,25 @@ fn zone_of<R: Files + Env + Eprint + AllocGlobal>(
     };
     match text.zone(alloc, &file.origin) {
         Ok(zone) => {
-            let (mark, source) = (Level::Notice.mark_for(rt), Source::File(file.path.as_str()));
-            let _ = tell_left_out(rt, mark, source, &text);
+            log_notes(rt, entries, Source::File(file.path.as_str()), &text);
             Ok(zone)
         }
         Err(fault) => Err(text.words(alloc, fault)),
+    }
+}
+
+/// Logs how many records are left out of a text, and how many have no effect, if there are any.
+fn log_notes<R: AllocGlobal + Wait>(
+    rt: &R,
+    entries: &Entries,
+    source: Source<'_>,
+    text: &ZoneText,
+) {
+    if let Some(said) = text.left_out(rt.alloc(), source) {
+        entries.queue.add(rt, Entry::Line(LogLine::LeftOut(said)));
+    }
+    if let Some(said) = text.has_dnames(rt.alloc(), source) {
+        entries.queue.add(rt, Entry::Line(LogLine::NoEffect(said)));
     }
 }
 
@@ -184,7 +212,7 @@ fn reason_of(alloc: Global, fault: PrepareFault) -> Result<String, AllocError> {
     match fault {
         PrepareFault::Change(fault) => format!(in alloc; "{fault}"),
         PrepareFault::TooLarge => format!(in alloc;
-            "the change has more records than one update may have: stop the server, and start it with --take zone"
+            "the change has more records than one update may have: stop the server, and start it anew, with --store a new directory where there is a store"
         ),
         PrepareFault::NoMemory => format!(in alloc; "out of memory"),
     }

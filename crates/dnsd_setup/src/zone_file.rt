@@ -2,7 +2,7 @@
 ghost use Rattle.std.specs.Prelude.{IfOk};
 ghost use Rattle.dnsd_setup.specs.Starts.{CanStart};
 
-use crate::file_report::{left_out_in, report_file};
+use crate::file_report::report_file;
 use crate::includes::Includes;
 use crate::started_zone::StartedZone;
 use crate::zone_text::{RefusedFile, ZoneText};
@@ -58,7 +58,7 @@ pub(crate) fn zone_text_from<R: Files + Eprint + AllocGlobal, I: BufRead>(
     let includes = includes_of(rt, source, &text, is_wide)?;
     match ZoneText::of(rt.alloc(), text, includes, origin, is_wide) {
         Ok(text) => {
-            tell_left_out(rt, "", source, &text)?;
+            tell_notes(rt, ("", ""), source, &text)?;
             Ok(Ok(text))
         }
         Err(refused) => Ok(Err(tell_wide(rt, "", source, &refused)?)),
@@ -101,23 +101,21 @@ fn tell_wide<R: Eprint + AllocGlobal>(
     Ok(status)
 }
 
-/// Reports on standard error how many records are left out of a text, if there are any.
-pub(crate) fn tell_left_out<R: Eprint + AllocGlobal>(
+/// Reports on standard error how many records are left out of a text, and how many have no effect, if there are any: a line each, after its mark.
+fn tell_notes<R: Eprint + AllocGlobal>(
     rt: &R,
-    mark: &str,
+    marks: (&str, &str),
     source: Source<'_>,
     text: &ZoneText,
 ) -> io::Result<()> {
-    let Some(said) = text
-        .plain()
-        .and_then(|plain| left_out_in(rt.alloc(), plain))
-    else {
-        return Ok(());
-    };
-    match source {
-        Source::Input => eprintln!(rt; "{mark}{said}"),
-        Source::File(path) => eprintln!(rt; "{mark}{path}: {said}"),
+    let (notice, warning) = marks;
+    if let Some(said) = text.left_out(rt.alloc(), source) {
+        eprintln!(rt; "{notice}{said}")?;
     }
+    if let Some(said) = text.has_dnames(rt.alloc(), source) {
+        eprintln!(rt; "{warning}{said}")?;
+    }
+    Ok(())
 }
 
 /// The text of the zone that is served. If it cannot be read, or a zone file as other servers read it is refused, returns the program's status, and
@@ -151,7 +149,8 @@ fn taken_text<R: Env + Eprint + AllocGlobal>(
 ) -> io::Result<Result<ZoneText, u8>> {
     match ZoneText::of(rt.alloc(), text, includes, &serve.origin, serve.is_wide) {
         Ok(text) => {
-            tell_left_out(rt, Level::Notice.mark_for(rt), serve.zone, &text)?;
+            let marks = (Level::Notice.mark_for(rt), Level::Warning.mark_for(rt));
+            tell_notes(rt, marks, serve.zone, &text)?;
             Ok(Ok(text))
         }
         Err(refused) => {

@@ -1,5 +1,6 @@
 //! The text of a zone, as it is read: plain, or as other servers read zone files.
-use crate::file_report::{push_placed, report_at, report_file, words_of};
+use crate::dnames::{dnames_in, dnames_of_text};
+use crate::file_report::{left_out_in, push_placed, report_at, report_file, words_of};
 use crate::includes::Includes;
 use commands::{Fault, Source, report_fault_of};
 use dns_name::Name;
@@ -18,6 +19,8 @@ pub struct ZoneText {
     includes: Includes,
     /// How it is read.
     reading: Reading,
+    /// How many DNAME records it has, if it is read as other servers read zone files; else 0.
+    dnames: u64,
 }
 
 /// How a text is read.
@@ -44,7 +47,9 @@ pub(crate) struct RefusedFile {
 
 impl ZoneText {
     /// The text of a source, with the files that it includes; `is_wide` is whether it is read as other servers read zone files, its names relative to the
-    /// origin: a byte order mark at its start is passed over then. Each command reads by this function, and a server at its start and at a reload.
+    /// origin: a byte order mark at its start is passed over then. A text without that mark that is a zone as it is stays as it is, since it is the same
+    /// zone as a zone file: so a store that was created from it is that of the same text whether or not it is read so. Each command reads by this
+    /// function, and a server at its start and at a reload.
     pub(crate) fn of(
         alloc: Global,
         source: Vec<u8>,
@@ -57,15 +62,30 @@ impl ZoneText {
                 source,
                 includes,
                 reading: Reading::Plain,
+                dnames: 0,
             });
         }
         let text = without_mark(source.as_slice());
+        if text.len() == source.len() {
+            if let Ok(zone) = read_zone(alloc, text, origin) {
+                return Ok(ZoneText {
+                    source,
+                    includes,
+                    reading: Reading::Plain,
+                    dnames: dnames_in(&zone),
+                });
+            }
+        }
         match plain_text(alloc, includes.files.as_slice(), text, origin) {
-            Ok(plain) => Ok(ZoneText {
-                source,
-                includes,
-                reading: Reading::Wide(plain),
-            }),
+            Ok(plain) => {
+                let dnames = dnames_of_text(plain.text());
+                Ok(ZoneText {
+                    source,
+                    includes,
+                    reading: Reading::Wide(plain),
+                    dnames,
+                })
+            }
             Err(fault) => Err(RefusedFile {
                 source,
                 includes,
@@ -85,6 +105,7 @@ impl ZoneText {
             source,
             includes,
             reading: Reading::Refused(fault),
+            dnames: 0,
         }
     }
 
@@ -101,12 +122,24 @@ impl ZoneText {
         }
     }
 
-    /// The plain text where the text is read as other servers read zone files.
-    pub(crate) fn plain(&self) -> Option<&PlainText> {
-        match &self.reading {
-            Reading::Wide(plain) => Some(plain),
-            _ => None,
+    /// How many records are left out of the text of a source, if there are any and there is memory for the words.
+    pub(crate) fn left_out(&self, alloc: Global, source: Source<'_>) -> Option<String> {
+        let Reading::Wide(plain) = &self.reading else {
+            return None;
+        };
+        said_of(alloc, source, left_out_in(alloc, plain)?)
+    }
+
+    /// How many DNAME records the text of a source has, if there are any and there is memory for the words.
+    pub(crate) fn has_dnames(&self, alloc: Global, source: Source<'_>) -> Option<String> {
+        if self.dnames == 0 {
+            return None;
         }
+        let count = self.dnames;
+        let said = format!(in alloc;
+            "warning: DNAME records, which have no effect on answers: {count}"
+        );
+        said_of(alloc, source, said.ok()?)
     }
 
     /// Appends to `errors` why the text is no zone, for this fault by the line of [`ZoneText::octets`], and returns the program's status.
@@ -158,5 +191,13 @@ impl ZoneText {
             }
         }
         Ok(placed)
+    }
+}
+
+/// What is said of the text of a source, after the path of the file.
+fn said_of(alloc: Global, source: Source<'_>, said: String) -> Option<String> {
+    match source {
+        Source::Input => Some(said),
+        Source::File(path) => format!(in alloc; "{path}: {said}").ok(),
     }
 }
