@@ -280,10 +280,11 @@ pub(crate) fn serve<R: Wait, Z: FirstZone, N: ServerName, L: ServiceLog, G: Gate
     let datagrams = datagrams_of(alloc, row)?;
     let reader = readers.pop()?;
     let peer = Peer::over(Transport::Udp, false);
-    let mut asked = DatagramHandler::new(alloc, server, reader, log, peer, asker(0));
-    if let Some(sender) = sender {
-        asked = asked.with_sender(sender);
-    }
+    let asked = DatagramHandler::new(alloc, server, reader, log, peer, asker(0));
+    let mut asked = match sender {
+        Some(sender) => asked.with_sender(sender),
+        None => asked,
+    };
     let mut request = [0u8; 65_535];
     let mut out = [0u8; 65_535];
     let rules = rules_if(alloc, row.may)?;
