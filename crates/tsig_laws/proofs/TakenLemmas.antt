@@ -1,5 +1,5 @@
 -- A request that passes each check is taken as signed.
-use Rattle.std.proofs.Common.{◌≡◌, ℕ, ◌+◌, ◌-◌, ◌≤◌, Bool, true, false, not, ◌&&◌, List, [], length, Option, Some, if◌then◌else◌, refl, sym, ap, ◌∙◌, arith}
+use Rattle.std.proofs.Common.{◌≡◌, ℕ, ◌-◌, ◌≤◌, true, false, not, ◌&&◌, List, [], length, Some, if◌then◌else◌, refl, ap, ◌∙◌, arith}
 use Rattle.std.specs.Prelude.{nat_lt, nat_le}
 use Rattle.std.proofs.lemmas.Bool.Decides.{nat_tests}
 use Rattle.dns_message.specs.Reads.{is_reply}
@@ -8,11 +8,9 @@ use Rattle.dns_message.specs.declared.tsig.Place.TheVariants.{At}
 use Rattle.hmac.specs.Hmac.{mac_size}
 use Rattle.hmac.specs.declared.algorithm.Algorithm.{Algorithm}
 use Rattle.hmac.specs.declared.algorithm.Algorithm.TheVariants.{Sha256, Sha384, Sha512}
-use Rattle.tsig.specs.Fields.{Fields}
 use Rattle.tsig.specs.Keys.{SharedKey, key_of}
 use Rattle.tsig.specs.Tsig.{Tsig, tsig_at}
 use Rattle.tsig.specs.Verification.{is_size, is_right, is_timely, request_tsig_of, by_mac, by_key, by_tsig, by_place, verified}
-use Rattle.tsig.specs.declared.verifying.Verification.{Verification}
 use Rattle.tsig.specs.declared.verifying.Verification.TheVariants.{Silent, Malformed, BadSig, BadTime, BadTrunc, Signed}
 
 not_fewer : (a b : ℕ) → b ≤ a → nat_lt a b ≡ false

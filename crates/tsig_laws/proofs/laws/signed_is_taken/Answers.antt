@@ -1,5 +1,5 @@
 -- Its MAC is whole and right, and so it is taken.
-use Rattle.std.proofs.Common.{ℕ, ◌+◌, List, [], ◌∷◌, length}
+use Rattle.std.proofs.Common.{◌+◌, [], ◌∷◌, length}
 use Rattle.hmac.proofs.Sizes.{length-hmac_by}
 use Rattle.tsig.specs.Digested.{message, mac_over, digested, variables}
 use Rattle.tsig.specs.Keys.{algorithm_name}
