@@ -45,7 +45,7 @@ impl WorkSince {
 /// Shows that a thread begins a round, at a time in milliseconds, where others see that.
 pub fn show_round(work: &Option<SharedWork>, now: u64) {
     if let Some(work) = work {
-        work.begin(now);
+        work.start_work(now);
     }
 }
 
