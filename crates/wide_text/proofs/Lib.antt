@@ -1,5 +1,8 @@
+pub mod BareLemmas
 pub mod EuiLemmas
 pub mod FieldLemmas
+pub mod ItemLemmas
+pub mod FrontBack
 pub mod KeyedLemmas
 pub mod LocationLemmas
 pub mod ParamLemmas
@@ -7,5 +10,7 @@ pub mod PlainFront
 pub mod PlainLemmas
 pub mod QuoteLemmas
 pub mod RestLemmas
+pub mod SpeltWords
+pub mod WideWords
 pub mod WordLemmas
 pub mod WriteLemmas

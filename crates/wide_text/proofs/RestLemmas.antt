@@ -1,8 +1,9 @@
 -- The words after the fields are read as the octets that they were written of, and so are the words of a whole form.
-use Rattle.std.proofs.Common.{◌≡◌, ℕ, ◌<◌, Bool, true, false, cond, ◌&&◌, ◌==◌, nat_lt, List, [], ◌∷◌, ◌++◌, length, drop, take, Option, Some, None, option_map, option_and_then, Result, Ok, Err, refl, sym, ap, ◌∙◌, arith}
+use Rattle.std.proofs.Common.{◌≡◌, ℕ, ◌<◌, Bool, true, false, cond, ◌&&◌, ◌==◌, nat_lt, List, [], ◌∷◌, ◌++◌, length, drop, take, bytes_eq, Option, Some, None, option_map, option_and_then, Result, Ok, Err, refl, sym, ap, ◌∙◌, arith}
 use Rattle.std.proofs.lemmas.Bool.Decides.{nat_tests, Decides-eqb}
 use Rattle.std.proofs.lemmas.List.{append-nil, take-append-drop, nil_from_length}
 use Rattle.std.proofs.lemmas.List.Elements.{All-drop}
+use Rattle.std.proofs.lemmas.Slice.Eq.{bytes_eq-Decides}
 use Rattle.base64.specs.Engines.{standard}
 use Rattle.base64.specs.GeneralPurpose.{encode_of}
 use Rattle.base64.specs.declared.DecodeError.{DecodeError}
@@ -21,6 +22,8 @@ use Rattle.record_text.specs.declared.cause.Cause.TheVariants.{BadData, Limit}
 use Rattle.record_text.proofs.BackLemmas.{AreOctets, strings_back, string_words}
 use Rattle.wide_text.specs.Encoded.{hex_in, base64_in}
 use Rattle.wide_text.specs.Fields.{field_of, fields_of, rest_of}
+use Rattle.wide_text.specs.LocationWords.{location_words}
+use Rattle.wide_text.specs.ParamWords.{param_words}
 use Rattle.wide_text.specs.Words.{word_at, rest_words, words_by}
 use Rattle.wide_text.specs.declared.forms.Field.{Field}
 use Rattle.wide_text.specs.declared.forms.Rest.{Rest}
@@ -56,16 +59,16 @@ base64_by octets true h = tt
 base64_by octets false h = ap base64_in (append-nil (encode_of standard octets)) ∙ base64_back octets h
 
 -- what the form of strings says
-record AreStrings (octets own : List ℕ) : Type 0 where
-  some : 0 < length octets
-  strings : are_strings octets ≡ true
-  same : own ≡ octets
+pub record AreStrings (octets own : List ℕ) : Type 0 where
+  pub some : 0 < length octets
+  pub strings : are_strings octets ≡ true
+  pub same : own ≡ octets
 
 second_true : (a b : Bool) → (a && b) ≡ true → b ≡ true
 second_true true b e = e
 second_true false b e = cc
 
-AreStrings-data : (octets own : List ℕ) → data_of 16 octets ≡ Some own → AreStrings octets own
+pub AreStrings-data : (octets own : List ℕ) → data_of 16 octets ≡ Some own → AreStrings octets own
 unfolding data_of layout_of
 AreStrings-data octets own e =
     let test = cond_some (nat_lt 0 (length octets) && are_strings octets) (Some octets) own e in
@@ -95,6 +98,16 @@ strings_rest : (octets : List ℕ) → AreOctets octets → IsRestBack rest.Stri
 unfolding as_data
 strings_rest octets h = strings_by octets (data_of 16 octets) (nat_lt 4096 (length octets)) h refl
 
+-- words that are written where they are read as the octets
+same_by : (r : Rest) (octets own : List ℕ) (words : List Written) (b : Bool) → bytes_eq own octets ≡ b → rest_of r words ≡ Ok own → IsRestBack r octets (cond b (Some words) None)
+same_by r octets own words true t e = e ∙ ap Ok ((bytes_eq-Decides own octets).0 t)
+same_by r octets own words false t e = tt
+
+read_by : (r : Rest) (octets : List ℕ) (words : List Written) (read : Result (List ℕ) Cause) → rest_of r words ≡ read
+    → IsRestBack r octets (cond (elim read as (λ _. Bool) [ Ok own ↦ bytes_eq own octets | Err cause ↦ false ]) (Some words) None)
+read_by r octets words (Ok own) e = same_by r octets own words (bytes_eq own octets) refl e
+read_by r octets words (Err cause) e = tt
+
 -- what stands after the fields
 pub rest_back : (r : Rest) (octets : List ℕ) → AreOctets octets → IsRestBack r octets (rest_words r octets)
 unfolding rest_words
@@ -102,8 +115,8 @@ rest_back rest.Nothing octets h = nothing_by octets (length octets == 0) refl
 rest_back rest.Strings octets h = strings_rest octets h
 rest_back rest.Hex octets h = hex_by octets (length octets == 0) h
 rest_back rest.Base64 octets h = base64_by octets (length octets == 0) h
-rest_back rest.Params octets h = tt
-rest_back rest.Location octets h = tt
+rest_back rest.Params octets h = read_by rest.Params octets (param_words octets) (rest_of rest.Params (param_words octets)) refl
+rest_back rest.Location octets h = read_by rest.Location octets (location_words octets) (rest_of rest.Location (location_words octets)) refl
 
 -- the words of fields and of what stands after them
 abbrev pub AreBack : List Field → Rest → List ℕ → Option (List Written) → Type 0

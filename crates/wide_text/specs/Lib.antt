@@ -5,7 +5,9 @@ pub mod Forms
 pub mod Front
 pub mod Laws
 pub mod Location
+pub mod LocationWords
 pub mod Mnemonics
+pub mod ParamWords
 pub mod Params
 pub mod Private
 pub mod Signing

@@ -1,5 +1,5 @@
 -- Numbers by their words: algorithms of DNSSEC, types of certificates, and types of the records that signers make.
-use Rattle.std.specs.Prelude.{ℕ, List, [], ◌∷◌, codes, if◌then◌else◌, Option, option_map, Result, Err, ok_or}
+use Rattle.std.specs.Prelude.{ℕ, ◌==◌, List, [], ◌∷◌, codes, if◌then◌else◌, Option, option_map, Result, Err, ok_or}
 use Rattle.std.specs.List.{find}
 use Rattle.record_text.specs.Mnemonics.{is_word}
 use Rattle.record_text.specs.Number.{number_of, is_number}
@@ -81,6 +81,10 @@ signing_types =
 -- the number that a text names, in any case
 abbrev pub number_named : List Mnemonic → List ℕ → Option ℕ
 number_named mnemonics text = option_map (λ mnemonic. mnemonic.number) (find (λ mnemonic. is_word text mnemonic.word) mnemonics)
+
+-- the word of a number
+abbrev pub word_numbered : List Mnemonic → ℕ → Option (List ℕ)
+word_numbered mnemonics number = option_map (λ mnemonic. mnemonic.word) (find (λ mnemonic. mnemonic.number == number) mnemonics)
 
 -- the number that a word names
 abbrev pub name_of : List Mnemonic → Written → Result ℕ Cause

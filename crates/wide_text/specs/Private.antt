@@ -1,7 +1,8 @@
 -- What the contracts of private functions cite.
-use Rattle.std.specs.Prelude.{◌≡◌, ℕ, Bool, List, ◌∷◌, ◌++◌, if◌then◌else◌, Option, Some, None, option_map}
+use Rattle.std.specs.Prelude.{◌≡◌, ℕ, Bool, List, ◌∷◌, ◌++◌, if◌then◌else◌, Option, Some, None, option_map, String, string_bytes}
 use Rattle.record_text.specs.Text.{as_text, text_of_words}
 use Rattle.zone_lexing.specs.Word.{Written}
+use Rattle.zone_lexing.specs.Word.Written.{Plain}
 
 -- a word is written after a space, and how many octets it takes is returned; None where there is none
 abbrev pub WritesWord : Option (Written × ℕ) → List ℕ → List ℕ → Option ℕ → Type 0
@@ -15,3 +16,7 @@ text_with before words = option_map (λ words. before ++ text_of_words words) wo
 -- words are written after a text, and that they are is returned
 abbrev pub WritesWords : Option (List Written) → List ℕ → List ℕ → Bool → Type 0
 WritesWords words before after done = (if done then Some after else None) ≡ text_with before words
+
+-- a text as a word outside quotes
+abbrev pub plain_word : {A : Type 0} → String A → Written
+plain_word text = Plain (string_bytes text)

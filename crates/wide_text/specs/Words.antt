@@ -1,5 +1,5 @@
 -- Data as words of its form (RFC 1035, 5.1).
-use Rattle.std.specs.Prelude.{ℕ, ◌+◌, ◌&&◌, ◌==◌, List, [], ◌∷◌, ◌++◌, length, take, drop, flat_map, nat_le, decimal, if◌then◌else◌, Option, Some, None, option_map, option_and_then, unwrap_or, Ok, Err}
+use Rattle.std.specs.Prelude.{ℕ, ◌+◌, Bool, false, ◌&&◌, ◌==◌, List, [], ◌∷◌, ◌++◌, length, take, drop, flat_map, nat_le, bytes_eq, decimal, if◌then◌else◌, Option, Some, None, option_map, option_and_then, unwrap_or, Ok, Err}
 use Rattle.std.specs.Int.{from_be_bytes, w16, w32}
 use Rattle.base64.specs.Engines.{standard}
 use Rattle.base64.specs.GeneralPurpose.{encode_of}
@@ -10,7 +10,10 @@ use Rattle.hex.specs.Hex.{encode_lower}
 use Rattle.record_text.specs.Data.{as_data}
 use Rattle.record_text.specs.Mnemonics.{type_word}
 use Rattle.record_text.specs.Text.{string_octet, words_of}
+use Rattle.wide_text.specs.Fields.{rest_of}
 use Rattle.wide_text.specs.Forms.{Form, form_of}
+use Rattle.wide_text.specs.LocationWords.{location_words}
+use Rattle.wide_text.specs.ParamWords.{param_words}
 use Rattle.wide_text.specs.Texts.{is_tag}
 use Rattle.wide_text.specs.declared.forms.Field.{Field}
 use Rattle.wide_text.specs.declared.forms.Field.TheVariants as field
@@ -74,13 +77,21 @@ word_at field.CertType octets = short_at octets
 word_at field.Eui48 octets = eui_at 6 octets
 word_at field.Eui64 octets = eui_at 8 octets
 
--- the words of the octets after the fields; none where they are no such words, and of parameters and places
+-- whether words are read as these octets
+abbrev pub are_read : Rest → List ℕ → List Written → Bool
+are_read rest octets words = elim (rest_of rest words) [ Ok own ↦ bytes_eq own octets | Err cause ↦ false ]
+
+-- words of octets, where they are read as these; else none
+abbrev pub read_back : Rest → List ℕ → List Written → Option (List Written)
+read_back rest octets words = if are_read rest octets words then Some words else None
+
+-- the words of the octets after the fields; none where they are no such words
 unfoldable pub rest_words : Rest → List ℕ → Option (List Written)
 rest_words rest.Nothing octets = if length octets == 0 then Some [] else None
 rest_words rest.Strings octets = elim (as_data type_TXT octets) [ Ok own ↦ Some (words_of type_TXT own) | Err cause ↦ None ]
 rest_words rest.Hex octets = if length octets == 0 then None else Some (Plain (encode_lower octets) ∷ [])
-rest_words rest.Params octets = None
-rest_words rest.Location octets = None
+rest_words rest.Params octets = read_back rest.Params octets (param_words octets)
+rest_words rest.Location octets = read_back rest.Location octets (location_words octets)
 rest_words rest.Base64 octets = if length octets == 0 then None else Some (Plain (encode_of standard octets) ∷ [])
 
 -- the words of octets that are these fields and this rest; none of others

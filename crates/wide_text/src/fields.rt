@@ -91,7 +91,7 @@ fn put_short(octets: &mut Vec<u8>, number: u32) -> Result<(), AllocError>
 }
 
 /// Puts the octets that the words after the fields stand for after the others.
-fn put_rest(
+pub(crate) fn put_rest(
     alloc: Global,
     octets: &mut Vec<u8>,
     rest: Rest,

@@ -12,8 +12,11 @@ mod front;
 mod keyed;
 mod laws;
 mod location;
+mod location_words;
 mod mnemonics;
+mod param_words;
 mod params;
+mod read_back;
 mod signing;
 mod texts;
 mod times;
@@ -22,7 +25,10 @@ mod words;
 pub use data::read_wide_data;
 pub use forms::{Field, Form, Rest, all_forms, form_of, wide_type};
 pub use front::read_wide_front;
-pub use laws::{plain_words_are_wide, written_fields_are_read_back};
+pub use laws::{
+    plain_words_are_wide, written_fields_are_read_back, written_fronts_are_read_back,
+    written_words_are_spelt,
+};
 pub use signing::is_left_out;
 pub use times::{is_time, seconds, wide_ttl};
 pub use words::{write_wide_data, write_wide_type};

@@ -36,10 +36,10 @@ const LONGITUDES: [Mnemonic; 2] = [
 ];
 
 /// The equator, and the prime meridian.
-const MIDDLE: u32 = 0x8000_0000;
+pub(crate) const MIDDLE: u32 = 0x8000_0000;
 
 /// The centimetres from 100000 metres below the ellipsoid to it.
-const GROUND: u32 = 10_000_000;
+pub(crate) const GROUND: u32 = 10_000_000;
 
 /// The size that doesn't stand: 1 metre.
 const SIZE: u8 = 0x12;

@@ -1,9 +1,9 @@
 //! Numbers by their words: algorithms of DNSSEC, types of certificates, and types of the records that signers make.
-ghost use Rattle.std.specs.Prelude.{◌≡◌, ◌≤◌, map, Ok, Err, IfOk, IfSome};
+ghost use Rattle.std.specs.Prelude.{◌≡◌, ◌≤◌, ◌↔◌, map, None, Some, Ok, Err, IfOk, IfSome, IsNone};
 ghost use Rattle.std.specs.Option.{option_map};
 ghost use Rattle.std.specs.List.{find};
 ghost use Rattle.record_text.specs.Mnemonics.{is_word};
-ghost use Rattle.wide_text.specs.Mnemonics.{algorithms, certificate_types, mnemonic_seen, name_of, named_of, number_named, signing_types};
+ghost use Rattle.wide_text.specs.Mnemonics.{algorithms, certificate_types, mnemonic_seen, name_of, named_of, number_named, signing_types, word_numbered};
 ghost use Rattle.zone_lexing.specs.Word.{written};
 
 use record_text::{Cause, is_number, number};
@@ -222,6 +222,19 @@ pub(crate) fn number_named(text: &[u8], mnemonics: &[Mnemonic]) -> Option<u8>
     for mnemonic in mnemonics {
         if is_word(text, mnemonic.word) {
             return Some(mnemonic.number);
+        }
+    }
+    None
+}
+
+/// The word of a number in a table; None where it has none.
+pub(crate) fn word_numbered(number: u16, mnemonics: &'static [Mnemonic]) -> Option<&'static str>
+    ensures none { IsNone result ↔ (word_numbered (map mnemonic_seen mnemonics.now) number ≡ None) }
+    ensures word { IfSome result (λ word. word_numbered (map mnemonic_seen mnemonics.now) number ≡ Some word.now) }
+{
+    for mnemonic in mnemonics {
+        if u16::from(mnemonic.number) == number {
+            return Some(mnemonic.word);
         }
     }
     None

@@ -65,7 +65,7 @@ const PARAM_KEYS: [Mnemonic; 7] = [
 
 /// The keys that have words.
 #[tactic(auto, unfolding(crate::specs::Params::param_keys))]
-fn param_keys() -> &'static [Mnemonic]
+pub(crate) fn param_keys() -> &'static [Mnemonic]
     ensures { map mnemonic_seen result.now ≡ param_keys }
 {
     &PARAM_KEYS

@@ -8,6 +8,9 @@ ghost use Rattle.wide_text.specs.Private.{WritesWord, WritesWords};
 ghost use Rattle.wide_text.specs.Words.{eui_at, long_at, more_pairs, octet_at, pairs, quoted, rest_words, short_at, string_at, tag_at, wide_type_word, wide_words, word_at, words_by};
 
 use crate::forms::{Field, Rest, form_of};
+use crate::location_words::location_words;
+use crate::param_words::param_words;
+use crate::read_back::write_read_back;
 use crate::texts::is_tag;
 use base64::engine::general_purpose::STANDARD;
 use dns_name::Name;
@@ -250,7 +253,8 @@ fn write_escaped(text: &mut String, octet: u8) -> Result<(), AllocError>
     }
 }
 
-/// Writes the words of the octets after the fields; false where they are no such words, and for parameters and places, which are written after `\\#`.
+/// Writes the words of the octets after the fields; false where they are no such words. Those of parameters and of a place are written where they are
+/// read as the octets.
 #[tactic(auto, unfolding(crate::specs::Words::rest_words))]
 fn write_rest(
     alloc: Global,
@@ -265,7 +269,10 @@ fn write_rest(
         Rest::Strings => write_strings(alloc, text, octets),
         Rest::Hex => write_hex(alloc, text, octets),
         Rest::Base64 => write_base64(text, octets),
-        Rest::Params | Rest::Location => Ok(false),
+        Rest::Params => { write_read_back(alloc, text, rest, octets, &param_words(alloc, octets)?) }
+        Rest::Location => {
+            write_read_back(alloc, text, rest, octets, &location_words(alloc, octets)?)
+        }
     }
 }
 
