@@ -1,4 +1,4 @@
--- A byte order mark in front of a text.
+-- A byte order mark before a text.
 use Rattle.std.specs.Prelude.{ℕ, List, ◌∷◌, ◌&&◌, ◌==◌, if◌then◌else◌}
 
 -- a text without the byte order mark that it may begin with, which is U+FEFF in UTF-8 (RFC 3629, 6)

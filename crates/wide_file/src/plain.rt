@@ -1,5 +1,5 @@
 //! The plain text that stands for a zone file and the files that it includes.
-ghost use Rattle.std.specs.Prelude.{◌≡◌, ◌<◌, ◌^◌, ◌++◌, ◌-◌, ◌∷◌, [], None, Some, IfOk, IfSome, OnOk, MatchOption, string_bytes};
+ghost use Rattle.std.specs.Prelude.{◌≡◌, ◌↔◌, ◌<◌, ◌≤◌, ◌^◌, ◌++◌, ◌-◌, ◌∷◌, [], None, Some, IfOk, IfSome, IsNone, OnOk, MatchOption, string_bytes};
 ghost use Rattle.dns_name.specs.Name.{fold_name};
 ghost use Rattle.master_file.specs.WrittenZone.{record_line};
 ghost use Rattle.master_file.specs.ZoneText.{record_in};
@@ -84,7 +84,8 @@ impl PlainText {
 
     /// The file and the line of it for a line of the text; line 0 is that of the zone file. None over 2^64 - 1.
     pub fn place(&self, line: u64) -> Option<(&FilePath, u64)>
-        ensures { IfSome result (λ place. place_of self.now line ≡ record { file = place.0.now; line = place.1 }) }
+        ensures none { IsNone result ↔ (2 ^ 64 ≤ (place_of self.now line).line) }
+        ensures place { IfSome result (λ place. place_of self.now line ≡ record { file = place.0.now; line = place.1 }) }
     {
         if self.part.at <= line {
             return self.part.place_in(line);

@@ -135,11 +135,11 @@ fn file_for<'f>(
     ensures fault { IfErr result (λ fault. (fault ≡ no_memory) ⊎ ((included_to depth (text_at files.now) file.now own.now).fault ≡ Some fault)) }
 {
     let Some(depth) = depth.checked_sub(1) else {
-        return Err(WideFault::at(alloc, file, own.line, WideCause::Include));
+        return Err(fault_at(alloc, file, own.line, WideCause::Include));
     };
     match found_in(alloc, files, file, own.path.as_bytes()) {
         Ok(Some(file)) => Ok(Opened { file, depth }),
-        Ok(None) => Err(WideFault::at(alloc, file, own.line, WideCause::Include)),
+        Ok(None) => Err(fault_at(alloc, file, own.line, WideCause::Include)),
         Err(AllocError) => Err(WideFault::no_memory(alloc)),
     }
 }
@@ -179,6 +179,13 @@ fn pass_record(
     Ok(())
 }
 
+/// A fault of a file; want of memory where there is none for it.
+fn fault_at(alloc: Global, file: &FilePath, line: u64, cause: WideCause) -> WideFault
+    ensures { (result ≡ no_memory) ⊎ (result ≡ record { file = file.now; line = line; cause = cause }) }
+{
+    WideFault::or_no_memory(alloc, WideFault::at(alloc, file, line, cause))
+}
+
 /// The next entry of a file; a fault has the file's path.
 fn next_of(
     alloc: Global,
@@ -194,7 +201,7 @@ fn next_of(
     match records.next(alloc) {
         Ok(found) => Ok(found),
         Err(fault) if fault.cause == Cause::NoMemory => Err(WideFault::no_memory(alloc)),
-        Err(fault) => Err(WideFault::at(alloc, file, fault.line, WideCause::Text(fault.cause))),
+        Err(fault) => Err(fault_at(alloc, file, fault.line, WideCause::Text(fault.cause))),
     }
 }
 
@@ -228,7 +235,7 @@ fn placed(alloc: Global, plain: &PlainText, fault: FileFault) -> WideFault
         return WideFault::no_memory(alloc);
     }
     match plain.place(fault.line) {
-        Some((file, line)) => WideFault::at(alloc, file, line, WideCause::Text(fault.cause)),
+        Some((file, line)) => fault_at(alloc, file, line, WideCause::Text(fault.cause)),
         None => WideFault::no_memory(alloc),
     }
 }

@@ -1,5 +1,5 @@
 //! What is wrong with a zone file or a file that it includes, and where.
-ghost use Rattle.std.specs.Prelude.{◌≡◌, ◌⊎◌};
+ghost use Rattle.std.specs.Prelude.{◌≡◌, IfOk, IsErr};
 ghost use Rattle.wide_file.specs.Fault.{at_file, no_memory};
 
 use crate::file_path::FilePath;
@@ -38,12 +38,26 @@ impl WideFault {
         }
     }
 
-    /// A fault of this file; want of memory where there is none for its path.
-    pub(crate) fn at(alloc: Global, file: &FilePath, line: u64, cause: WideCause) -> WideFault
-        ensures { (result ≡ no_memory) ⊎ (result ≡ record { file = file.now; line = line; cause = cause }) }
+    /// A fault of this file. Fails where there is no memory for its path.
+    pub(crate) fn at(
+        alloc: Global,
+        file: &FilePath,
+        line: u64,
+        cause: WideCause,
+    ) -> Result<WideFault, AllocError>
+        ensures { IfOk result (λ fault. fault ≡ record { file = file.now; line = line; cause = cause }) }
     {
-        match FilePath::of(alloc, file.as_bytes()) {
-            Ok(file) => WideFault { file, line, cause },
+        let file = FilePath::of(alloc, file.as_bytes())?;
+        Ok(WideFault { file, line, cause })
+    }
+
+    /// A fault; want of memory where there was none for it.
+    pub(crate) fn or_no_memory(alloc: Global, fault: Result<WideFault, AllocError>) -> WideFault
+        ensures fault { IfOk fault (λ own. result ≡ own) }
+        ensures memory { IsErr fault → result ≡ no_memory }
+    {
+        match fault {
+            Ok(fault) => fault,
             Err(AllocError) => WideFault::no_memory(alloc),
         }
     }

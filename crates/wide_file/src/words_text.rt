@@ -11,7 +11,7 @@ use std::alloc::{AllocError, Global};
 use wide_text::{write_wide_data, write_wide_type};
 
 /// A zone's text with the types and the data of its records in words, where they have a form: a record a line, in the text's order, with the owner
-/// whole, the TTL in seconds and the class. Data that isn't of its type's form, parameters and places stand after `\#` (RFC 3597, 5).
+/// whole, the TTL in seconds and the class. Data that isn't of its type's form stands after `\#` (RFC 3597, 5).
 ///
 /// The fault is that of the first entry that has one, as a zone's text is read under the root, on its line; `NoMemory`, at line 0, where a growth was
 /// refused.

@@ -14,4 +14,4 @@ pub returns-in-Ok-None-clause-fault : goal.returns-in-Ok-None-clause-fault
 returns-in-Ok-None-clause-fault c =
     let deeper : c.args.depth ≡ c.in-Some.depth + 1 = search rules in
     let found : found_in (text_at c.args.files.now) c.args.file.now c.args.own.now.path ≡ None = search rules in
-    told_none c.args.depth c.in-Some.depth (text_at c.args.files.now) c.args.file.now c.args.own.now c.at-in-Ok-None.result deeper found c.at-in-Ok-None.ensures
+    told_none c.args.depth c.in-Some.depth (text_at c.args.files.now) c.args.file.now c.args.own.now c.fault_at-in-Ok-None.result deeper found c.fault_at-in-Ok-None.ensures
