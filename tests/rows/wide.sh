@@ -13,6 +13,15 @@ wide() {
     [[ $got == 0 && $said == "${both#*$'\n=>\n'}" && $told == "$said_of" ]] || differs "${both#*$'\n=>\n'}and on errors '$said_of'" check --wide "$@" -
 }
 
+# both_ways WORDS: what `dnsd check --words` prints of the text that was printed last, and what is read of it under --wide: that text
+both_ways() {
+    local plain=${said%$'\n'}
+    input=$plain$'\n'
+    prints "$1" check --words -
+    input=$1$'\n'
+    prints "$plain" check --wide -
+}
+
 # a file as in use
 wide '' --origin example.com. <<'end'
 $TTL 1h30m
@@ -202,6 +211,29 @@ o.x. 5 IN TYPE99 \# 17 0b763d73706631202d616c6c046d6f7265
 p.x. 5 IN TYPE64 \# 48 001003666f6f076578616d706c65036f7267000000000400010004000100090268320568332d313900040004c0000201
 q.x. 5 IN TYPE64 \# 48 001003666f6f076578616d706c65036f7267000000000400010004000100090268320568332d313900040004c0000201
 end
+# and in words, which are read back
+both_ways 'x. 5 IN SOA a.x. b.x. 1 2 3 4 5
+x. 5 IN NS a.x.
+a.x. 5 IN HTTPS 0 foo.example.com.
+b.x. 5 IN SVCB 1 .
+c.x. 5 IN SVCB 16 foo.example.com. port=53
+d.x. 5 IN SVCB 1 foo.example.com. key667=hello
+e.x. 5 IN SVCB 1 foo.example.com. key667=hello\210qoo
+f.x. 5 IN SVCB 1 foo.example.com. ipv6hint=2001:db8:0:0:0:0:0:1,2001:db8:0:0:0:0:53:1
+g.x. 5 IN SVCB 1 example.com. ipv6hint=2001:db8:122:344:0:0:c000:221
+h.x. 5 IN SVCB 16 foo.example.org. alpn=f\\\\oo\\,bar,h2
+i.x. 5 IN HTTPS 1 . alpn=h2 no-default-alpn port=8443 ipv4hint=192.0.2.1,192.0.2.2 ech=AQID ipv6hint=2001:db8:0:0:0:0:0:1
+j.x. 5 IN NAPTR 100 50 "s" "z3950+I2L+I2C" "" _z3950._tcp.gatech.edu.
+k.x. 5 IN CERT 3 0 0 AQID
+l.x. 5 IN DNSKEY 256 3 8 AwEAAcw=
+l.x. 5 IN CDNSKEY 257 3 13 AwEAAcw=
+m.x. 5 IN SSHFP 1 1 dd465c09cfa51fb45020cc83316fff21b9ec74ac
+n.x. 5 IN EUI64 00-00-5e-ef-10-00-00-2a
+o.x. 5 IN AFSDB 1 a.x.
+o.x. 5 IN KX 10 a.x.
+o.x. 5 IN SPF "v=spf1 -all" "more"
+p.x. 5 IN SVCB 16 foo.example.org. mandatory=alpn,ipv4hint alpn=h2,h3-19 ipv4hint=192.0.2.1
+q.x. 5 IN SVCB 16 foo.example.org. mandatory=alpn,ipv4hint alpn=h2,h3-19 ipv4hint=192.0.2.1'
 
 # places (RFC 1876, 3: its examples first), by hand, and as named-rrchecker has them but for letters in lower case: a size keeps its first digit
 wide '' --origin x. <<'end'
@@ -229,6 +261,42 @@ f.x. 5 IN TYPE29 \# 16 000016138b3cf018810cbce0009895b8
 g.x. 5 IN TYPE29 \# 16 009910516cb02700a69fb200ffffffff
 h.x. 5 IN TYPE29 \# 16 001393138036ee80806ddd0000989c5c
 i.x. 5 IN TYPE29 \# 16 001216137ffffe0c8000000000000000
+end
+both_ways 'x. 5 IN SOA a.x. b.x. 1 2 3 4 5
+x. 5 IN NS a.x.
+a.x. 5 IN LOC 42 21 54.000 N 71 6 18.000 W -24.00m 30.00m 10000.00m 10.00m
+b.x. 5 IN LOC 42 21 43.952 N 71 5 6.344 W -24.00m 1.00m 200.00m 10.00m
+c.x. 5 IN LOC 52 14 5.000 N 0 8 50.000 E 10.00m 1.00m 10000.00m 10.00m
+d.x. 5 IN LOC 32 7 19.000 S 116 2 25.000 E 10.00m 1.00m 10000.00m 10.00m
+e.x. 5 IN LOC 42 21 28.764 N 71 0 51.617 W -44.00m 2000.00m 10000.00m 10.00m
+f.x. 5 IN LOC 52 22 23.000 N 4 53 32.000 E -2.00m 0.00m 10000.00m 10.00m
+g.x. 5 IN LOC 90 0 0.000 S 180 0 0.000 E 42849672.95m 90000000.00m 0.01m 0.50m
+h.x. 5 IN LOC 1 0 0.000 N 2 0 0.000 E 15.00m 10.00m 90.00m 10.00m
+i.x. 5 IN LOC 0 0 0.500 S 0 0 0.000 E -100000.00m 1.00m 10000.00m 10.00m'
+
+# what isn't of the form is written after \# (RFC 3597, 5): parameters out of order, one twice, a list without an item, a port of three octets, a mandatory key
+# that is `mandatory`, a value that is cut off; a place of another version, of 91 degrees, with a size of no digit, and of 15 octets
+top='x. 5 IN SOA a. b. 1 2 3 4 5
+x. 5 IN NS a.'
+while IFS= read -r line; do
+    input=$top$'\n'$line$'\n'
+    prints "$top"$'\n'"${line/TYPE64/SVCB}" check --words -
+done <<'end'
+x. 5 IN TYPE64 \# 16 00010000030002003500010003026832
+x. 5 IN TYPE64 \# 15 000100000300020035000300020035
+x. 5 IN TYPE64 \# 7 00010000010000
+x. 5 IN TYPE64 \# 10 00010000030003003500
+x. 5 IN TYPE64 \# 9 000100000000020000
+x. 5 IN TYPE64 \# 9 000100000300030035
+end
+while IFS= read -r line; do
+    input=$top$'\n'$line$'\n'
+    prints "$top"$'\n'"${line/TYPE29/LOC}" check --words -
+done <<'end'
+x. 5 IN TYPE29 \# 16 0133161389172dd070be15f000988d20
+x. 5 IN TYPE29 \# 16 003316139386c78070be15f000988d20
+x. 5 IN TYPE29 \# 16 0003161389172dd070be15f000988d20
+x. 5 IN TYPE29 \# 15 0033161389172dd070be15f000988d
 end
 
 # no TTL is in force: an SOA's MINIMUM is its TTL, and that of the records after it; of another type there is none
@@ -396,9 +464,9 @@ h.x. 5 IN OPENPGPKEY AQIDBA==
 i.x. 5 IN RP A.x. B.
 j.x. 5 IN DNAME Example.NET.
 k.x. 5 IN EUI48 00-00-5e-00-53-2a
-l.x. 5 IN HTTPS \# 21 0001000001000602683202683300040004c0000203
+l.x. 5 IN HTTPS 1 . alpn=h2,h3 ipv4hint=192.0.2.3
 m.x. 5 IN TLSA 3 1 1 0123456789abcdef
-n.x. 5 IN LOC \# 16 0033161389172dd070be15f000988d20
+n.x. 5 IN LOC 42 21 54.000 N 71 6 18.000 W -24.00m 30.00m 10000.00m 10.00m
 o.x. 5 IN CAA \# 3 000000
 p.x. 5 IN TYPE65280 \# 2 0102
 q.x. 5 IN SPF "v=spf1 -all" "more \"quoted\" \\ \007"

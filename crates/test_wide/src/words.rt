@@ -101,6 +101,60 @@ const RECORDS: [(&str, &str); 31] = [
     ),
 ];
 
+/// Data in octets, and its words (RFC 1876, 4; RFC 9460, D), or the same where it isn't of its type's form.
+const WRITTEN: [(&str, &str); 14] = [
+    (
+        "TYPE29 \\# 16 0033161389172dd070be15f000988d20",
+        "LOC 42 21 54.000 N 71 6 18.000 W -24.00m 30.00m 10000.00m 10.00m",
+    ),
+    (
+        "TYPE29 \\# 16 00121613791b7d2898e6486800989a68",
+        "LOC 32 7 19.000 S 116 2 25.000 E 10.00m 1.00m 10000.00m 10.00m",
+    ),
+    (
+        "TYPE29 \\# 16 009910516cb02700a69fb200ffffffff",
+        "LOC 90 0 0.000 S 180 0 0.000 E 42849672.95m 90000000.00m 0.01m 0.50m",
+    ),
+    (
+        "TYPE29 \\# 16 0133161389172dd070be15f000988d20",
+        "LOC \\# 16 0133161389172dd070be15f000988d20",
+    ),
+    (
+        "TYPE29 \\# 16 0003161389172dd070be15f000988d20",
+        "LOC \\# 16 0003161389172dd070be15f000988d20",
+    ),
+    ("TYPE64 \\# 3 000100", "SVCB 1 ."),
+    (
+        "TYPE64 \\# 35 001003666f6f076578616d706c65036f7267000001000c08665c6f6f2c626172026832",
+        "SVCB 16 foo.example.org. alpn=f\\\\\\\\oo\\\\,bar,h2",
+    ),
+    (
+        "TYPE64 \\# 48 001003666f6f076578616d706c65036f7267000000000400010004000100090268320568332d313900040004c0000201",
+        "SVCB 16 foo.example.org. mandatory=alpn,ipv4hint alpn=h2,h3-19 ipv4hint=192.0.2.1",
+    ),
+    (
+        "TYPE64 \\# 32 000103666f6f076578616d706c6503636f6d00029b000968656c6c6fd2716f6f",
+        "SVCB 1 foo.example.com. key667=hello\\210qoo",
+    ),
+    (
+        "TYPE65 \\# 40 000100000200000003000220fb00050003010203000600102001 0db8000000000000000000000001",
+        "HTTPS 1 . no-default-alpn port=8443 ech=AQID ipv6hint=2001:db8:0:0:0:0:0:1",
+    ),
+    (
+        "TYPE65 \\# 12 000100 029b0005 20223b5c28",
+        "HTTPS 1 . key667=\\032\\\"\\;\\\\\\(",
+    ),
+    (
+        "TYPE65 \\# 15 000100 000300020035 000300020035",
+        "HTTPS \\# 15 000100000300020035000300020035",
+    ),
+    ("TYPE65 \\# 7 000100 00010000", "HTTPS \\# 7 00010000010000"),
+    (
+        "TYPE65 \\# 9 000100 000300030035",
+        "HTTPS \\# 9 000100000300030035",
+    ),
+];
+
 /// What is refused, and how.
 const REFUSED: [(&str, Cause); 28] = [
     ("CAA 256 issue \"a\"", Cause::Number),
@@ -197,6 +251,19 @@ fn is_read(alloc: Global, text: &str, digits: &str) -> Option<bool> {
 fn records(rt: HostRuntime) {
     for (text, digits) in RECORDS {
         assert_eq!(rt; is_read(rt.alloc(), text, digits), Some(true), "{text}");
+    }
+}
+
+/// Whether these words are written of data.
+fn is_written(alloc: Global, text: &str, words: &str) -> Option<bool> {
+    let rdata = data_of(alloc, text)?.ok()?;
+    Some(text_of(alloc, &rdata)?.as_str() == words)
+}
+
+#[test]
+fn written(rt: HostRuntime) {
+    for (text, words) in WRITTEN {
+        assert_eq!(rt; is_written(rt.alloc(), text, words), Some(true), "{text}");
     }
 }
 
