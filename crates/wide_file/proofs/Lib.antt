@@ -3,3 +3,4 @@ pub mod PlainFileLemmas
 pub mod RecordLemmas
 pub mod SpellLemmas
 pub mod TextBackLemmas
+pub mod WordsBackLemmas

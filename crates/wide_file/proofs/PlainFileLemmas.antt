@@ -136,7 +136,7 @@ kept_by rtype origin words octets true false s t e =
     let read = read_first (octets_of_words rtype origin words) (as_data rtype) octets own in
     absurd (signing_none rtype origin words read.0 s read.1)
 
-not_left_out : (rtype : ℕ) (origin : Name) (words : List Written) (octets : List ℕ) → data_of_words rtype origin words ≡ Ok octets → left_out rtype words ≡ Ok false
+pub not_left_out : (rtype : ℕ) (origin : Name) (words : List Written) (octets : List ℕ) → data_of_words rtype origin words ≡ Ok octets → left_out rtype words ≡ Ok false
 not_left_out rtype origin words octets e = kept_by rtype origin words octets (is_signing rtype) (are_generic words) refl refl e
 
 -- a record
@@ -200,7 +200,7 @@ judged_widens : (context : declared.Context) (line : ℕ) (indented : Bool) (wor
 judged_widens context line indented words pair e = judged_by context line indented words (directive_of indented words) pair e
 
 -- records as entries
-abbrev as_entries : List RecordEntry → List WideEntry
+abbrev pub as_entries : List RecordEntry → List WideEntry
 as_entries [] = []
 as_entries (rr ∷ rrs) = entry.Record rr ∷ as_entries rrs
 
@@ -216,7 +216,7 @@ plain_then line unclosed entries r = elim r [
   | Ok (next, Some rr) ↦ plain.in_front rr (plain.records_from next entries)
 ]
 
-abbrev all_of : Read → WideRead
+abbrev pub all_of : Read → WideRead
 all_of read = record { entries = as_entries read.rrs; fault = None }
 
 then_widens : (line : ℕ) (unclosed : Option ℕ) (entries : List Entry) (r : Result (declared.Context × Option RecordEntry) Cause) (s : Result (Context × Option WideEntry) Cause)
@@ -234,22 +234,22 @@ all_widen context (first ∷ entries) none =
     (judged_widens context first.line first.indented (words_of first)) (λ next. all_widen next entries) none
 
 -- they are all of one file
-abbrev in_file : RecordEntry → Placed
+abbrev pub in_file : RecordEntry → Placed
 in_file rr = record { file = []; own = entry.Record rr }
 
-abbrev all_placed : List RecordEntry → List Placed
+abbrev pub all_placed : List RecordEntry → List Placed
 all_placed [] = []
 all_placed (rr ∷ rrs) = in_file rr ∷ all_placed rrs
 
-all_read : (included : IncludeEntry → Whole) (rrs : List RecordEntry) → entries_read included [] None (as_entries rrs) ≡ record { entries = all_placed rrs; fault = None }
+pub all_read : (included : IncludeEntry → Whole) (rrs : List RecordEntry) → entries_read included [] None (as_entries rrs) ≡ record { entries = all_placed rrs; fault = None }
 all_read included [] = refl
 all_read included (rr ∷ rrs) = ap (then_read (one [] (entry.Record rr))) (all_read included rrs)
 
 -- each on the line of its entry
-abbrev file_part : Part
+abbrev pub file_part : Part
 file_part = record { at = 0; file = []; from = 0 }
 
-abbrev of_file : List ℕ → ℕ → Spelled
+abbrev pub of_file : List ℕ → ℕ → Spelled
 of_file text lines = record { text = text; line = lines; part = file_part; parts = []; left_out = 0; first_left_out = None }
 
 own_line : (line : ℕ) → line_in file_part line ≡ line
@@ -274,7 +274,7 @@ put_next text lines rr h =
     ap (λ (at : ℕ). on_line (turned (of_file text lines) [] rr.line) at rr) (same_line text lines rr.line h)
     ∙ ap (λ (plain : Spelled). on_line plain rr.line rr) (stays text lines rr.line h)
 
-laid_same : (text : List ℕ) (lines : ℕ) (rrs : List RecordEntry) → AreBelow lines rrs → laid (of_file text lines) (all_placed rrs) ≡ rrs
+pub laid_same : (text : List ℕ) (lines : ℕ) (rrs : List RecordEntry) → AreBelow lines rrs → laid (of_file text lines) (all_placed rrs) ≡ rrs
 laid_same text lines [] h = refl
 laid_same text lines (rr ∷ rrs) h =
     ap (λ (at : ℕ). at_line at rr ∷ laid (put (of_file text lines) [] (entry.Record rr)) (all_placed rrs)) (same_line text lines rr.line h.0)

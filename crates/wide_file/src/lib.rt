@@ -20,7 +20,7 @@ mod words_text;
 
 pub use file_path::{FilePath, directory};
 pub use included::{IncludedFile, included_paths};
-pub use laws::plain_zones_are_wide;
+pub use laws::{plain_zones_are_wide, words_are_the_zone};
 pub use mark::without_mark;
 pub use part::Place;
 pub use plain::PlainText;
