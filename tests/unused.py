@@ -37,6 +37,7 @@ PUBLIC = {
     "requests::serve_udp": "public call: datagrams answered one by one",
     "shared_tree::Tree::new": "the tree of no pair, with which a sequence of calls of `with` begins",
     "tcp_connections::serve_stream": "public call: a stream served to its end",
+    "tsig_laws::signed_is_taken": "law, whose body calls another law",
     "wide_file::WideRecords::new": "public call: the records of the text of one file",
     "wide_file::read_wide_zone": "public call: the zone of a zone file as other servers read it",
     "wide_text::write_wide_data": "public call: a record's data in the words of its type",
