@@ -97,6 +97,10 @@ x. CAA 0 is-sue "a" => M6 BadData
 x. CAA 0 issue "a" "b" => M6 BadData
 x. TLSA 3 1 1 012 => M6 BadData
 x. OPENPGPKEY AQIDBA => M6 BadData
+x. MX \# 4 000a0141 => M6 BadData
+x. MX \# 4 000ac00c => M6 BadData
+x. MX \# 6 000a014100 => M6 BadData
+x. MX \# x 000a014100 => M3 Number
 x. DS 1 RSA 1 00 => M3 Number
 x. HTTPS 1 . port=53 alpn=h2 port=53 => M6 BadData
 x. HTTPS 1 . mandatory=port,alpn,port alpn=h2 port=53 => M6 BadData
@@ -342,6 +346,31 @@ row 0 "listening on 127.0.0.1:" serve --wide --listen 127.0.0.1:0 --workers 1 --
 tries check --wide --origin x. "$room/plain"
 [[ $got == 0 && $told == "$room/plain: ${dname}1"$'\n' ]] || differs "$room/plain: ${dname}1" check --wide
 prints "${said%$'\n'}" check --origin x. "$room/plain"
+
+# names after \# may have capital letters, in data of each type that has names; texts and octets of other types stay
+wide '' --origin x. <<'end'
+$TTL 5
+@ SOA \# 26 014100 014200 00000001 00000002 00000003 00000004 00000005
+@ NS \# 3 014100
+c CNAME \# 5 0141015800
+m MX \# 7 000A 0141015800
+p PTR \# 5 0141015A00
+s SRV \# 9 000100020003 014100
+t TXT \# 2 0141
+t TYPE99 \# 3 014100
+=>
+x. 5 IN SOA a. b. 1 2 3 4 5
+x. 5 IN NS a.
+c.x. 5 IN CNAME a.x.
+m.x. 5 IN MX 10 a.x.
+p.x. 5 IN PTR a.z.
+s.x. 5 IN SRV 1 2 3 a.
+t.x. 5 IN TXT "A"
+t.x. 5 IN TYPE99 \# 3 014100
+end
+# without the option they are refused as ever
+input=$zone_text$'x. MX \\# 5 000a014100\n'
+refuses 1 'line 4: M6 BadData' check -
 
 # records of signers are left out, and their number is told; owner and TTL stay in force after them, and octets after \# are kept
 left='records left out (RRSIG, NSEC, NSEC3, NSEC3PARAM): '

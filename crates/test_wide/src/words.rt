@@ -7,7 +7,7 @@ use wide_text::{read_wide_data, read_wide_front, seconds, write_wide_data, write
 use zone_lexing::{Entries, Word};
 
 /// What stands after an owner, and the data (RFC 4034, 5.4; RFC 8659, 4.1; RFC 7553, 4; RFC 4701, 3.6, and other examples).
-const RECORDS: [(&str, &str); 31] = [
+const RECORDS: [(&str, &str); 34] = [
     ("HINFO \"INTEL-386\" UNIX", "09494e54454c2d33383604554e4958"),
     (
         "CAA 0 issue \"letsencrypt.org\"",
@@ -95,6 +95,9 @@ const RECORDS: [(&str, &str); 31] = [
     ("DNAME Example.NET.", "074578616d706c65034e455400"),
     ("AFSDB 1 a.", "0001016100"),
     ("SPF \"v=spf1 \" -all", "07763d737066312004 2d616c6c"),
+    ("MX \\# 7 000A 0141015800", "000a 0161017800"),
+    ("TYPE2 \\# 5 0141015A00", "0161017a00"),
+    ("SPF \\# 3 014100", "014100"),
     (
         "SOA a. b. 1 2h 15m 2W 5m",
         "016100016200 00000001 00001c20 00000384 00127500 0000012c",
@@ -156,7 +159,7 @@ const WRITTEN: [(&str, &str); 14] = [
 ];
 
 /// What is refused, and how.
-const REFUSED: [(&str, Cause); 28] = [
+const REFUSED: [(&str, Cause); 30] = [
     ("CAA 256 issue \"a\"", Cause::Number),
     ("CAA 0 \"issue\" \"a\"", Cause::BadData),
     ("CAA 0 is-sue \"a\"", Cause::BadData),
@@ -185,6 +188,8 @@ const REFUSED: [(&str, Cause); 28] = [
     ("EUI64 \"00-00-5e-ef-10-00-00-2a\"", Cause::BadData),
     ("SOA a. b. 1h 1 1 1 1", Cause::Number),
     ("TYPE257 0 issue", Cause::BadData),
+    ("MX \\# 4 000ac00c", Cause::BadData),
+    ("MX \\# 6 000a014100", Cause::BadData),
 ];
 
 /// Times, and their seconds; None where they are none.

@@ -32,7 +32,8 @@ use Rattle.wide_text.specs.Signing.{all_closed, is_signing, left_out}
 use Rattle.wide_text.specs.Mnemonics.{type_RRSIG, type_NSEC, type_NSEC3, type_NSEC3PARAM}
 use Rattle.wide_text.specs.Times.{ttl_of}
 use Rattle.wide_text.proofs.PlainFront.{plain_front_is_wide}
-use Rattle.wide_text.proofs.PlainLemmas.{number_is_time, plain_data_is_wide, read_first, read_on}
+use Rattle.wide_text.proofs.GenericLemmas.{read_first}
+use Rattle.wide_text.proofs.PlainLemmas.{number_is_time, plain_data_is_wide, read_on}
 use Rattle.wide_file.specs.Included.{Files, Placed, Whole, entries_read, included_to, max_depth, one, then_read}
 use Rattle.wide_file.specs.PlainText.{Spelled, at_line, empty_lines, goes_on, laid, line_for, line_in, part_from, put, on_line, put_all, turned, unwritten}
 use Rattle.wide_file.specs.WideZone.{placed_fault, wide_zone, zone_of_whole}

@@ -3,6 +3,7 @@ pub mod EuiLemmas
 pub mod FieldLemmas
 pub mod ItemLemmas
 pub mod FrontBack
+pub mod GenericLemmas
 pub mod KeyedLemmas
 pub mod LocationLemmas
 pub mod ParamLemmas

@@ -14,7 +14,8 @@ use Rattle.record_text.specs.declared.cause.Cause.TheVariants.{UnknownType}
 use Rattle.wide_text.specs.Forms.{other_type_named}
 use Rattle.wide_text.specs.Front.{front_from, wide_type_of}
 use Rattle.wide_text.specs.Times.{is_time, is_time_text, has_units_after}
-use Rattle.wide_text.proofs.PlainLemmas.{number_is_time, read_first, read_on}
+use Rattle.wide_text.proofs.GenericLemmas.{read_first}
+use Rattle.wide_text.proofs.PlainLemmas.{number_is_time, read_on}
 use Rattle.zone_lexing.specs.Word.{Written}
 use Rattle.zone_lexing.specs.Word.Written.{Plain, Quoted, Unclosed}
 

@@ -1,17 +1,18 @@
 -- What the plain grammar reads is read alike: data.
-use Rattle.std.proofs.Common.{◌≡◌, ℕ, Bool, true, false, cond, ◌&&◌, ◌==◌, nat_le, List, [], ◌∷◌, ◌++◌, map, Option, Some, None, Result, Ok, Err, ok_or, refl, sym, ap, subst, ◌∙◌}
+use Rattle.std.proofs.Common.{◌≡◌, ℕ, Bool, true, false, cond, ◌&&◌, ◌==◌, nat_le, List, [], ◌∷◌, ◌++◌, drop, map, Option, Some, None, Result, Ok, Err, ok_or, refl, sym, ap, subst, ◌∙◌}
 use Rattle.std.specs.Int.{to_be_bytes, w32}
 use Rattle.std.specs.List.{find}
 use Rattle.std.proofs.lemmas.Bool.Decides.{Decides-eqb}
 use Rattle.dns_name.specs.Name.{wire_of}
-use Rattle.record_text.specs.Data.{fields_of as plain_fields, field_of as plain_field, octets_of_words, as_data, data_of_words, surplus_of, form_of as plain_form}
-use Rattle.record_text.specs.Generic.{are_generic}
+use Rattle.record_text.specs.Data.{fields_of as plain_fields, field_of as plain_field, octets_of_words, as_data, as_own_data, data_of_words, surplus_of, form_of as plain_form}
+use Rattle.record_text.specs.Generic.{are_generic, generic_of}
 use Rattle.record_text.specs.NameWord.{name_of}
 use Rattle.record_text.specs.Number.{are_digits, value_of, decimal_of, number_of, is_number}
 use Rattle.record_text.specs.Reading.{on_ok, and_then}
 use Rattle.record_text.specs.declared.cause.Cause.{Cause}
 use Rattle.record_text.specs.declared.cause.Cause.TheVariants.{BadData, Number}
 use Rattle.record_text.proofs.DataLemmas.{words_fields}
+use Rattle.wide_text.proofs.GenericLemmas.{read_first, generic_is_data}
 use Rattle.wide_text.specs.Data.{data_by, wide_data}
 use Rattle.wide_text.specs.Fields.{field_of, fields_of}
 use Rattle.wide_text.specs.Forms.{Form, forms, form_of}
@@ -21,10 +22,6 @@ use Rattle.wide_text.specs.declared.forms.Field.TheVariants as field
 use Rattle.wide_text.specs.declared.forms.Rest.TheVariants as rest
 use Rattle.zone_lexing.specs.Word.{Written}
 use Rattle.zone_lexing.specs.Word.Written.{Plain, Quoted, Unclosed}
-
-pub read_first : {A B : Type 0} (r : Result A Cause) (f : A → Result B Cause) (y : B) → and_then r f ≡ Ok y → (x : A) × (r ≡ Ok x) × (f x ≡ Ok y)
-read_first (Ok x) f y e = (x, refl, e)
-read_first (Err cause) f y e = cc
 
 pub read_on : {A B : Type 0} (r : Result A Cause) (f : A → B) (y : B) → on_ok f r ≡ Ok y → (x : A) × (r ≡ Ok x) × (f x ≡ y)
 read_on (Ok x) f y e = (x, refl, cc)
@@ -152,8 +149,10 @@ data_widens rtype (Some form) e origin words octets g h =
     ap (λ (r : Result (List ℕ) Cause). and_then r (as_data rtype)) wide ∙ read.2
 
 -- what the plain grammar reads as data is read so
-by_mark : (rtype : ℕ) (origin : List (List ℕ)) (words : List Written) (octets : List ℕ) (b : Bool) → are_generic words ≡ b → data_of_words rtype origin words ≡ Ok octets → cond b (data_of_words rtype origin words) (data_by (form_of rtype) rtype origin words) ≡ Ok octets
-by_mark rtype origin words octets true g h = h
+by_mark : (rtype : ℕ) (origin : List (List ℕ)) (words : List Written) (octets : List ℕ) (b : Bool) → are_generic words ≡ b → data_of_words rtype origin words ≡ Ok octets → cond b (and_then (generic_of (drop 1 words)) (as_data rtype)) (data_by (form_of rtype) rtype origin words) ≡ Ok octets
+by_mark rtype origin words octets true g h =
+    let own : and_then (generic_of (drop 1 words)) (as_own_data rtype) ≡ Ok octets = (rw g at h) in
+    generic_is_data rtype (drop 1 words) octets own
 by_mark rtype origin words octets false g h = data_widens rtype (form_of rtype) refl origin words octets g h
 
 pub plain_data_is_wide : (rtype : ℕ) (origin : List (List ℕ)) (words : List Written) (octets : List ℕ) → data_of_words rtype origin words ≡ Ok octets → wide_data rtype origin words ≡ Ok octets
