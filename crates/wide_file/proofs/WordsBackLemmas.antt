@@ -1,5 +1,5 @@
 -- A zone's text in words is read as the zone.
-use Rattle.std.proofs.Common.{◌≡◌, ℕ, suc, ◌+◌, ◌-◌, ◌<◌, ◌≤◌, ◌^◌, Bool, true, false, cond, not, ◌&&◌, ◌==◌, nat_lt, List, [], ◌∷◌, ◌++◌, length, map, flat_map, codes, decimal, All, Option, Some, None, IfSome, option_map, unwrap_or, Result, Ok, Err, ok_or, refl, sym, ap, ◌∙◌, arith}
+use Rattle.std.proofs.Common.{◌≡◌, ℕ, suc, ◌+◌, ◌-◌, ◌<◌, ◌≤◌, ◌^◌, Bool, true, false, cond, not, ◌&&◌, ◌==◌, nat_lt, List, [], ◌∷◌, ◌++◌, drop, length, map, flat_map, codes, decimal, All, Option, Some, None, IfSome, option_map, unwrap_or, Result, Ok, Err, ok_or, refl, sym, ap, ◌∙◌, arith}
 use Rattle.std.specs.List.{find, list_all}
 use Rattle.std.specs.Option.{is_some, option_or}
 use Rattle.std.proofs.lemmas.Bool.Decides.{nat_tests, Decides-eqb}
@@ -13,7 +13,7 @@ use Rattle.dns_rdata.specs.declared.numbers.Ttl.{Ttl}
 use Rattle.zone_tree.specs.Zone.{IsZone}
 use Rattle.record_text.specs.Data.{as_data, data_of_words}
 use Rattle.record_text.specs.Front.{Front}
-use Rattle.record_text.specs.Generic.{are_generic}
+use Rattle.record_text.specs.Generic.{are_generic, generic_of}
 use Rattle.record_text.specs.Mnemonics.{class_named, class_of, type_named, type_numbered, type_word}
 use Rattle.record_text.specs.Number.{are_digits}
 use Rattle.record_text.specs.Reading.{on_ok, and_then}
@@ -156,7 +156,7 @@ words_read : (rtype : ℕ) (origin : Name) (octets : List ℕ) (form : Form) (wo
     → AreRead rtype origin octets (unwrap_or words (words_of rtype octets))
 words_read rtype origin octets form None e is h good back = plain_read rtype origin octets h
 words_read rtype origin octets form (Some words) e is h good back = record {
-  read = ap (λ (b : Bool). cond b (data_of_words rtype origin words) (data_by (form_of rtype) rtype origin words)) good.1
+  read = ap (λ (b : Bool). cond b (and_then (generic_of (drop 1 words)) (as_data rtype)) (data_by (form_of rtype) rtype origin words)) good.1
       ∙ ap (λ (o : Option Form). data_by o rtype origin words) e
       ∙ ap (λ (r : Result (List ℕ) Cause). and_then r (as_data rtype)) (back origin)
       ∙ data_is rtype octets h;
