@@ -267,14 +267,14 @@ fn is_sent(alloc: Global, sent: &[Datagram], right: &[(u16, &str)]) -> Option<bo
 
 /// Answers a row's datagrams from a server, with one of the readers, which it puts back. With a sender, updates are submitted. Returns how the
 /// answering ended, and the datagrams that are left and sent. None if memory allocation fails or there is no reader.
-pub(crate) fn serve<R: Wait, Z: FirstZone, N: ServerName, L: ServiceLog, G: Gate>(
+pub(crate) fn serve<'a, R: Wait, Z: FirstZone, N: ServerName, L: ServiceLog, G: Gate>(
     rt: &R,
     alloc: Global,
-    server: &Server<'_, Z, N>,
+    server: &'a Server<'_, Z, N>,
     readers: &mut Vec<VersionReader<N>>,
     row: &Row,
-    sender: Option<UpdateSender<'_>>,
-    log: &L,
+    sender: Option<UpdateSender<'a>>,
+    log: &'a L,
     gate: &G,
 ) -> Option<(DatagramsEnd, MemoryDatagrams)> {
     let datagrams = datagrams_of(alloc, row)?;
@@ -315,13 +315,13 @@ const SUBMITTED: Row = Row {
 };
 
 /// Whether a row's datagrams go as the row says.
-pub(crate) fn go<R: Wait, Z: FirstZone, N: ServerName>(
+pub(crate) fn go<'a, R: Wait, Z: FirstZone, N: ServerName>(
     rt: &R,
     alloc: Global,
-    server: &Server<'_, Z, N>,
+    server: &'a Server<'_, Z, N>,
     readers: &mut Vec<VersionReader<N>>,
     row: &Row,
-    sender: Option<UpdateSender<'_>>,
+    sender: Option<UpdateSender<'a>>,
 ) -> Option<bool> {
     let (end, datagrams) = serve(rt, alloc, server, readers, row, sender, &NoLog, &OpenGate)?;
     let is_sent = is_sent(alloc, datagrams.sent(), row.sent)?;
