@@ -275,7 +275,7 @@ pub(crate) fn serve<'a, R: Wait, Z: FirstZone, N: ServerName, L: ServiceLog, G: 
     row: &Row,
     sender: Option<UpdateSender<'a>>,
     log: &'a L,
-    gate: &G,
+    gate: &'a G,
 ) -> Option<(DatagramsEnd, MemoryDatagrams)> {
     let datagrams = datagrams_of(alloc, row)?;
     let reader = readers.pop()?;
