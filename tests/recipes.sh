@@ -1,7 +1,7 @@
 #!/usr/bin/env bash
 # Runs each block of commands in docs/OPERATING.md, with addresses, ports and paths of its own in place of those there, and tries what it left: a zone
 # saved by a transfer, a store's backup, a backup restored to a new store, which a BIND with a greater serial takes, a zone brought in from another
-# server, keys, and rules for who may update and transfer. A block that it doesn't know is a failure, and so is a recipe that no block is of. It prints a line a check and a count, and its
+# server, keys, rules for who may update and transfer, a deployment, and a reload. A block that it doesn't know is a failure, and so is a recipe that no block is of. It prints a line a check and a count, and its
 # status is 1 where one failed. It listens on 127.0.0.1 alone, and ends what it starts.
 # Usage: [DNSD=PROGRAM] tests/recipes.sh [--port N]
 #   --port N    dnsd listens on N (by default 17413), a secondary and another server on the two after it
@@ -37,6 +37,7 @@ recipe_of() {
         'dig '*' @192.0.2.1 example.com. axfr > theirs') echo brings_in ;;
         "--may '"*) echo permits ;;
         'dnsd check --warn example.test.zone '*) echo deploys ;;
+        'dnsd control '*' reload') echo reloads ;;
         'key "'*) echo keys ;;
     esac
 }
@@ -44,7 +45,7 @@ recipe_of() {
 # Writes a block as $work/block, with what stands here in place of what it names.
 ours() {
     sed "s|@127.0.0.1 -p 5353|@127.0.0.1 -p $port|; s|@192.0.2.7|@127.0.0.1 -p $secondary|; s|@192.0.2.1|@127.0.0.1 -p $other|; s|192.0.2.1:53|127.0.0.1:$port|
-        s|/etc/dnsd|$work/zones|g; s|/var/lib/dnsd|$work/store|g; s|contrib/convert|$PWD/contrib/convert|" "$1" >"$work/block"
+        s|/etc/dnsd|$work/zones|g; s|/var/lib/dnsd|$work/store|g; s|/run/dnsd|$work|g; s|contrib/convert|$PWD/contrib/convert|" "$1" >"$work/block"
 }
 
 # Runs $work/block: its status is printed, and what it says goes to $work/said.
@@ -56,7 +57,7 @@ block() {
 runs() {
     local status
     ours "$1"
-    check "$recipe: no address or folder of the page is left" '' "$(sed "s|$work||g" "$work/block" | grep -oE '192\.0\.2\.[0-9]+|/(etc|var)/[a-z]+|5353' || true)"
+    check "$recipe: no address or folder of the page is left" '' "$(sed "s|$work||g" "$work/block" | grep -oE '192\.0\.2\.[0-9]+|/(etc|var|run)/[a-z]+|5353' || true)"
     status=$(block)
     check "$recipe: the block runs" 0 "$status"
     [ "$status" = 0 ] || sed 's/^/           /' "$work/said"
@@ -170,6 +171,17 @@ deploys() {
     unserve
 }
 
+# A zone file is read again: it has serial 2 and another address when the block runs.
+reloads() {
+    "$program" check zones/example.test.zone >"$work/served.zone"
+    serve "$work/served.zone" --control "$work/control"
+    sed -i 's/ 1 7200 / 2 7200 /; s/192\.0\.2\.10$/192.0.2.11/' "$work/served.zone"
+    runs "$1"
+    check "$recipe: the server's serial then" 2 "$(serial "$port")"
+    check "$recipe: an address then" 192.0.2.11 "$(dig @127.0.0.1 -p "$port" +short web.example.test. A)"
+    unserve
+}
+
 awk -v folder="$work/blocks" '/^```/ { inside = !inside; number += inside; next } inside { print > sprintf("%s/%03d", folder, number) }' docs/OPERATING.md
 seen=
 for block in "$work"/blocks/*; do
@@ -178,7 +190,7 @@ for block in "$work"/blocks/*; do
     [ -z "$recipe" ] || "$recipe" "$block"
     seen="$seen $recipe"
 done
-for recipe in saves_by_transfer saves_a_store restores brings_in keys permits deploys; do
+for recipe in saves_by_transfer saves_a_store restores brings_in keys permits deploys reloads; do
     check "$recipe: a block is of it" yes "$([[ " $seen " != *" $recipe "* ]] || echo yes)"
 done
 echo "$passed checks passed, $failed failed"
