@@ -1,7 +1,7 @@
 #!/usr/bin/env python3
 """Measures a reload of a zone file beside queries, updates and transfers, and with a stock Knot as secondary (`dnsd control PATH reload`): how long it takes, the latencies
 of queries with it and without, how long after the log's line Knot as secondary has the new serial, and by what kind of transfer, the server's memory; and the same reload by Knot as primary
-(`zonefile-load: difference`, `knotc -b zone-reload`). Usage: [DNSD=PROGRAM] bench/reload.py [RECORDS [CHANGES [RELOADS]]], by default 1,000,000 records, 1,000 of which
+(`zonefile-load: difference`, `knotc -b zone-reload`). Usage: [DNSD=PROGRAM] bench/reload.py [RECORDS [CHANGES [RELOADS]]], by default 999,000 records (a zone has at most 1,000,000, and updates add some), 1,000 of which
 change, and 5 reloads. It needs Debian's knot and knot-dnsutils, and 127.0.0.1 alone."""
 import multiprocessing
 import os
@@ -18,7 +18,7 @@ import time
 
 top = os.path.dirname(os.path.dirname(os.path.abspath(__file__)))
 program = os.environ.get("DNSD", f"{top}/crates/dnsd/out/dnsd")
-RECORDS, CHANGES, RELOADS = (int(sys.argv[at]) if len(sys.argv) > at else default for at, default in ((1, 1_000_000), (2, 1000), (3, 5)))
+RECORDS, CHANGES, RELOADS = (int(sys.argv[at]) if len(sys.argv) > at else default for at, default in ((1, 999_000), (2, 1000), (3, 5)))
 APEX = bytes.fromhex("076578616d706c65047465737400")
 
 
@@ -116,7 +116,7 @@ def knot_at(room, name, port, zone):
 def secondary_at(room, port, primary):
     """A stock Knot at a port that follows the server at another one."""
     return knot_at(room, "secondary", port, f"remote:\n  - id: primary\n    address: 127.0.0.1@{primary}\nacl:\n  - id: notify\n    address: 127.0.0.1\n    action: notify\n"
-                                            "zone:\n  - domain: example.test\n    master: primary\n    acl: notify\n")
+                                            f"zone:\n  - domain: example.test\n    storage: {room}/secondary\n    master: primary\n    acl: notify\n")
 
 
 def main():
