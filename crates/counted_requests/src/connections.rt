@@ -171,6 +171,8 @@ impl<'a, M: Messages, A: Handler<M>, C: Clock> Handler<CountedMessages<'a, M>>
 
     ghost asker = { λ counting. A.asker counting.inner };
 
+    ghost entitles = { λ peer request. A.entitles peer request };
+
     ghost is_reply = { λ peer known later request messages. A.is_reply peer known later request messages };
 
     ghost is_later = { λ peer request. A.is_later peer request };

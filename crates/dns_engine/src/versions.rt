@@ -9,14 +9,19 @@ use snapshot_cell::{NamedCell, NamedPublisher, NamedReader, NamedStrong, Names};
 use std::marker::{Brand, PhantomData};
 use weak_history::{Chain, History};
 
-/// The first zone of a cell, which contracts alone see. A type has it that stands for a zone known only when the program runs.
+/// The first zone of a cell, and which updates may be made of it, which contracts alone see. A type has them that stands for those known only when the program runs.
 pub trait FirstZone {
     /// The records of the first zone.
     ghost zone: { List Record };
+
+    /// Which updates may be made, by their messages (RFC 2136, 3.3).
+    ghost entitled: { List (List ℕ) → Type 0 };
 }
 
 impl FirstZone for Brand {
     ghost zone = { [] };
+
+    ghost entitled = { λ messages. Unit {0} };
 }
 
 /// What names a cell of versions: it begins with the first zone, and each next version is what some update makes of the one before

@@ -1,4 +1,5 @@
 //! A store whose batches are counted.
+use dns_engine::FirstZone;
 use counters::{Counter, ServerCounters};
 use server_control::SharedWork;
 use std::alloc::Global;
@@ -85,7 +86,7 @@ impl<S: UpdateStore, C: Clock> UpdateStore for CountedStore<'_, S, C> {
         self.is_written = false;
     }
 
-    fn append<R: Wait>(
+    fn append<R: Wait, Z: FirstZone>(
         &mut self,
         rt: &R,
         alloc: Global,
@@ -93,10 +94,10 @@ impl<S: UpdateStore, C: Clock> UpdateStore for CountedStore<'_, S, C> {
     ) -> Result<(), S::Fault> {
         self.is_written = true;
         let Some(counters) = self.counters else {
-            return self.store.append(rt, alloc, updates);
+            return self.store.append::<R, Z>(rt, alloc, updates);
         };
         let before = nanos_of(self.clock);
-        let stored = self.store.append(rt, alloc, updates);
+        let stored = self.store.append::<R, Z>(rt, alloc, updates);
         if stored.is_ok() && !updates.is_empty() {
             let took = nanos_of(self.clock).saturating_sub(before);
             count(rt, counters, updates.len() as u64, took);

@@ -54,6 +54,10 @@ pub record IsPeer (rules : List Rule) (transport : Transport) (from : SocketAddr
   pub update : peer.may_update ≡ is_update request && permits rules (requestor_at transport from) (reads request)
   pub transfer : peer.may_transfer ≡ may_transfer rules (requestor_at transport from)
 
+-- by rules and a transport each peer that sends a request is one that may have sent it
+abbrev pub RulesEntitle : (Peer → List ℕ → Type 0) → List Rule → Transport → Type 0
+RulesEntitle entitles rules transport = (from : SocketAddr) (request : List ℕ) (peer : Peer) → IsPeer rules transport from request peer → entitles peer request
+
 -- what a reply is, by what is known before it and when it is made, and by the address that the request comes from: the reply to the peer that rules make of who sends that request from there
 abbrev pub IsReplyFrom : {K : Type 0} → (Peer → K → K → List ℕ → List (List ℕ) → Type 0) → List Rule → Transport → SocketAddr → K → K → List ℕ → List (List ℕ) → Type 0
 IsReplyFrom IsReply rules transport from known later request messages = (peer : Peer) × IsPeer rules transport from request peer × IsReply peer known later request messages

@@ -1,4 +1,6 @@
 //! Requests as datagrams that pass a gate.
+ghost use Rattle.requests.specs.Allowed.{RulesEntitle};
+ghost use Rattle.serve_core.specs.declared.transport.Transport.TheVariants.{Udp};
 ghost use Rattle.std.specs.Prelude.{◌≤◌, length, IfSome};
 ghost use Rattle.dns_message.specs.Message.{message_limit};
 ghost use Rattle.requests.specs.Served.{Grows};
@@ -23,6 +25,7 @@ fn answer_through<R: Wait, A: Handler, D: Datagrams, G: Gate>(
     request: &mut [u8],
     out: &mut [u8],
 ) -> DatagramsEnd
+    requires entitled { RulesEntitle A.entitles allowed.entry.rules.now Udp }
     requires request_room { message_limit ≤ length request.old }
     requires reply_room { message_limit ≤ length out.old }
     ensures grows { Grows (A.seen handler.new) (A.seen handler.old) }
@@ -57,6 +60,7 @@ pub fn serve_udp<R: Wait, A: Handler, D: Datagrams, G: Gate>(
     request: &mut [u8],
     out: &mut [u8],
 ) -> DatagramsEnd
+    requires entitled { RulesEntitle A.entitles allowed.entry.rules.now Udp }
     requires request_room { message_limit ≤ length request.old }
     requires reply_room { message_limit ≤ length out.old }
     ensures grows { Grows (A.seen handler.new) (A.seen handler.old) }

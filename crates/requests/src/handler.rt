@@ -24,6 +24,9 @@ pub trait Handler {
     /// The peer that sends the request.
     ghost peer: { Self → PeerAsking };
 
+    /// Which requests a peer may have sent: what it may do is its own by that request.
+    ghost entitles: { PeerAsking → List ℕ → Type 0 };
+
     /// What the messages of a reply to a request are, by the peer, by what is known before the reply, and by what is known when it is made.
     ghost is_reply: { PeerAsking → Learned Version → Learned Version → List ℕ → List (List ℕ) → Type 0 };
 
@@ -40,7 +43,8 @@ pub trait Handler {
         request: &[u8],
         out: &mut [u8],
     ) -> Result<Option<usize>, Spent>
-        requires { message_limit ≤ length out.old }
+        requires room { message_limit ≤ length out.old }
+        requires entitled { entitles (by_datagram (peer self.old)) request.now }
         ensures same { peer self.new ≡ peer self.old }
         ensures grows { Grows (seen self.new) (seen self.old) }
         ensures bound { IfOk result (λ len. IfSome len (λ n. (n ≤ message_limit) × (n ≤ length out.new))) }

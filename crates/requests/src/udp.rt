@@ -1,4 +1,6 @@
 //! Requests as datagrams, answered one after another (RFC 1035, 4.2.1).
+ghost use Rattle.requests.specs.Allowed.{RulesEntitle};
+ghost use Rattle.serve_core.specs.declared.transport.Transport.TheVariants.{Udp};
 ghost use Rattle.std.specs.Prelude.{◌≡◌, ◌≤◌, length, IfSome, OnOk, OnErr};
 ghost use Rattle.dns_message.specs.Message.{message_limit};
 ghost use Rattle.requests.specs.Served.{Grows};
@@ -34,7 +36,8 @@ pub(crate) fn answer_from<R: Wait, A: Handler, D: Datagrams>(
     from: SocketAddr,
     out: &mut [u8],
 ) -> Result<(), Spent>
-    requires { message_limit ≤ length out.old }
+    requires entitled { RulesEntitle A.entitles allowed.entry.rules.now Udp }
+    requires room { message_limit ≤ length out.old }
     ensures grows { Grows (A.seen handler.new) (A.seen handler.old) }
     ensures answered { OnOk result (AnswersFrom A.is_reply allowed.entry.rules.now (A.seen handler.old) request.now from (A.seen handler.new) (D.datagrams datagrams.old) (D.failed datagrams.old) (D.datagrams datagrams.new) (D.failed datagrams.new)) }
     ensures spent { OnErr result (D.datagrams datagrams.new ≡ D.datagrams datagrams.old) }
@@ -69,6 +72,7 @@ fn answer_all<R: Wait, A: Handler, D: Datagrams>(
     request: &mut [u8],
     out: &mut [u8],
 ) -> DatagramsEnd
+    requires entitled { RulesEntitle A.entitles allowed.entry.rules.now Udp }
     requires request_room { message_limit ≤ length request.old }
     requires reply_room { message_limit ≤ length out.old }
     ensures grows { Grows (A.seen handler.new) (A.seen handler.old) }
@@ -99,6 +103,7 @@ pub fn serve_datagrams<R: Wait, A: Handler, D: Datagrams>(
     request: &mut [u8],
     out: &mut [u8],
 ) -> DatagramsEnd
+    requires entitled { RulesEntitle A.entitles allowed.entry.rules.now Udp }
     requires request_room { message_limit ≤ length request.old }
     requires reply_room { message_limit ≤ length out.old }
     ensures grows { Grows (A.seen handler.new) (A.seen handler.old) }

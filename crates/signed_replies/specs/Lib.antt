@@ -1,3 +1,4 @@
+pub mod Entitled
 pub mod Rights
 pub mod Signed
 pub mod Stream

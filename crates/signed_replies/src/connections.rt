@@ -4,6 +4,7 @@ ghost use Rattle.dns_message.specs.Message.{message_limit};
 ghost use Rattle.tcp_connections.specs.Served.{Knowledge, Extends};
 ghost use Rattle.requests.specs.declared.stream_end.StreamEnd.{StreamEnd as EndOf};
 ghost use Rattle.requests.specs.Octets.{messages_in};
+ghost use Rattle.signed_replies.specs.Entitled.{KeysEntitle, EntitlesUnsigned};
 ghost use Rattle.signed_replies.specs.Signed.{received, plain_of, IsReplyBy, IsReplyTo, IsSignedReply, IsLaterBy, IsLaterTo};
 ghost use Rattle.signed_replies.specs.Stream.{AreSignedInOrder, stream_by};
 ghost use Rattle.tcp_connections.specs.Asked.{EachGrows};
@@ -50,6 +51,7 @@ pub struct SignedConnections<'r, 'k, K: KeyRing, M: Messages, A: Handler<M>, C, 
     pub(crate) room: PlainRoom,
     pub(crate) times: PendingTimes,
     messages: PhantomData<M>,
+    ghost entitled: { KeysEntitle K.keys K.rights A.entitles },
 }
 
 /// The most octets of a request whose pointers are followed anew for each name (own).
@@ -89,6 +91,7 @@ fn reply_as<R: Wait, M: Messages, A: Handler<M>>(
     request: &[u8],
     out: &mut [u8],
 ) -> Result<Reply<M>, StreamEnd>
+    requires entitled { A.entitles peer request.now }
     requires room { message_limit ≤ length out.old }
     ensures grows { EachGrows {T = Version} (A.seen inner.new) (A.seen inner.old) }
     ensures bound { IfOk result (λ reply. (len : ℕ) → reply ≡ ReplyOf.One len → (len ≤ message_limit) × (len ≤ length out.new)) }
@@ -180,6 +183,7 @@ impl<
         peer: Peer,
         from: SocketAddr,
     ) -> SignedConnections<'r, 'k, K, M, A, C, O>
+        requires entitled { KeysEntitle K.keys K.rights A.entitles }
         ensures inner { result.inner ≡ inner }
         ensures peer { result.peer ≡ peer }
     {
@@ -226,6 +230,7 @@ impl<
         request: &[u8],
         out: &mut [u8],
     ) -> Result<Reply<SignedMessages<'k, M>>, StreamEnd>
+        requires signed { received K.keys now request.now ≡ signed_by tsig }
         requires header { HEADER ≤ length request.now }
         requires short { length request.now ≤ message_limit }
         requires room { message_limit ≤ length out.old }
@@ -261,6 +266,7 @@ impl<
         request: &[u8],
         out: &mut [u8],
     ) -> Result<Reply<SignedMessages<'k, M>>, StreamEnd>
+        requires entitled { EntitlesUnsigned K.keys A.entitles self.old.peer request.now }
         requires verified { verified ≡ received K.keys now request.now }
         requires header { HEADER ≤ length request.now }
         requires short { length request.now ≤ message_limit }
@@ -326,6 +332,7 @@ impl<
         request: &[u8],
         out: &mut [u8],
     ) -> Result<Reply<SignedMessages<'k, M>>, StreamEnd>
+        requires entitled { EntitlesUnsigned K.keys A.entitles self.old.peer request.now }
         requires same { message.now ≡ request.now }
         requires header { HEADER ≤ length request.now }
         requires short { length request.now ≤ message_limit }
@@ -361,6 +368,7 @@ impl<
         request: &[u8],
         out: &mut [u8],
     ) -> Result<Reply<SignedMessages<'k, M>>, StreamEnd>
+        requires entitled { EntitlesUnsigned K.keys A.entitles self.old.peer request.now }
         requires verified { verified ≡ received K.keys now request.now }
         requires header { HEADER ≤ length request.now }
         requires short { length request.now ≤ message_limit }
@@ -400,6 +408,7 @@ impl<
         request: &[u8],
         out: &mut [u8],
     ) -> Result<Reply<SignedMessages<'k, M>>, StreamEnd>
+        requires entitled { EntitlesUnsigned K.keys A.entitles self.old.peer request.now }
         requires header { HEADER ≤ length request.now }
         requires short { length request.now ≤ message_limit }
         requires room { message_limit ≤ length out.old }
@@ -427,6 +436,8 @@ impl<'r, 'k, K: KeyRing, M: Messages, A: Handler<M>, C: UnixClock, O: TsigLog + 
     ghost peer = { λ signed. signed.peer };
 
     ghost asker = { λ signed. signed.asker };
+
+    ghost entitles = { λ peer request. EntitlesUnsigned K.keys A.entitles peer request };
 
     ghost is_reply = { λ peer known later request messages. IsReplyTo K.keys K.rights A.is_reply AreSignedInOrder Extends peer known later request messages };
 

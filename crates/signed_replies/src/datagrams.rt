@@ -7,8 +7,9 @@ ghost use Rattle.requests.specs.Datagrams.{by_datagram};
 ghost use Rattle.requests.specs.Octets.{messages_in};
 ghost use Rattle.requests.specs.Served.{Learned, Grows};
 ghost use Rattle.serve_core.specs.declared.peer.Peer.{Peer as PeerAsking};
+ghost use Rattle.signed_replies.specs.Entitled.{KeysEntitle, EntitlesUnsigned};
 ghost use Rattle.signed_replies.specs.Signed.{received, AreSignedAlone, IsReplyBy, IsSignedReply, IsReplyTo};
-ghost use Rattle.tsig.specs.declared.verifying.Verification.TheVariants.{Unsigned as unsigned};
+ghost use Rattle.tsig.specs.declared.verifying.Verification.TheVariants.{Signed as signed_by, Unsigned as unsigned};
 ghost use Rattle.zone_tree.specs.Version.{Version};
 
 use crate::bare::has_no_tsig;
@@ -46,6 +47,7 @@ pub struct SignedDatagrams<'r, 'k, K: KeyRing, A: SignsLater, C, O> {
     /// Whether that handler may still have the TSIG of a request before.
     has_tsig: bool,
     room: PlainRoom,
+    ghost entitled: { KeysEntitle K.keys K.rights A.entitles },
 }
 
 impl<'r, 'k, K: KeyRing, A: SignsLater + Drop, C: UnixClock, O: TsigLog + Drop> SignedDatagrams<
@@ -66,6 +68,7 @@ impl<'r, 'k, K: KeyRing, A: SignsLater + Drop, C: UnixClock, O: TsigLog + Drop> 
         peer: Peer,
         from: SocketAddr,
     ) -> SignedDatagrams<'r, 'k, K, A, C, O>
+        requires entitled { KeysEntitle K.keys K.rights A.entitles }
         ensures inner { result.inner ≡ inner }
         ensures peer { result.peer ≡ peer }
     {
@@ -96,6 +99,7 @@ impl<'r, 'k, K: KeyRing, A: SignsLater + Drop, C: UnixClock, O: TsigLog + Drop> 
         request: &[u8],
         out: &mut [u8],
     ) -> Result<Option<usize>, Spent>
+        requires entitled { EntitlesUnsigned K.keys A.entitles (by_datagram self.old.peer) request.now }
         requires header { HEADER ≤ length request.now }
         requires room { message_limit ≤ length out.old }
         ensures same { self.new.peer ≡ self.old.peer }
@@ -119,6 +123,7 @@ impl<'r, 'k, K: KeyRing, A: SignsLater + Drop, C: UnixClock, O: TsigLog + Drop> 
         request: &[u8],
         out: &mut [u8],
     ) -> Result<Option<usize>, Spent>
+        requires entitled { EntitlesUnsigned K.keys A.entitles (by_datagram self.old.peer) request.now }
         requires header { HEADER ≤ length request.now }
         requires short { length request.now ≤ message_limit }
         requires room { message_limit ≤ length out.old }
@@ -142,6 +147,7 @@ impl<'r, 'k, K: KeyRing, A: SignsLater + Drop, C: UnixClock, O: TsigLog + Drop> 
         request: &[u8],
         out: &mut [u8],
     ) -> Result<Option<usize>, Spent>
+        requires entitled { EntitlesUnsigned K.keys A.entitles (by_datagram self.old.peer) request.now }
         requires header { HEADER ≤ length request.now }
         requires short { length request.now ≤ message_limit }
         requires room { message_limit ≤ length out.old }
@@ -167,6 +173,7 @@ impl<'r, 'k, K: KeyRing, A: SignsLater + Drop, C: UnixClock, O: TsigLog + Drop> 
         out: &mut [u8],
     ) -> Result<Option<usize>, Spent>
         requires unsigned { unsigned ≡ received K.keys 0 request.now }
+        requires entitled { A.entitles (by_datagram self.old.peer) request.now }
         requires room { message_limit ≤ length out.old }
         ensures same { self.new.peer ≡ self.old.peer }
         ensures grows { Grows {T = Version} (A.seen self.new.inner) (A.seen self.old.inner) }
@@ -200,6 +207,7 @@ impl<'r, 'k, K: KeyRing, A: SignsLater + Drop, C: UnixClock, O: TsigLog + Drop> 
         request: &[u8],
         out: &mut [u8],
     ) -> Result<Option<usize>, Spent>
+        requires entitled { EntitlesUnsigned K.keys A.entitles (by_datagram self.old.peer) request.now }
         requires message { message.now ≡ request.now }
         requires header { HEADER ≤ length request.now }
         requires short { length request.now ≤ message_limit }
@@ -223,6 +231,7 @@ impl<'r, 'k, K: KeyRing, A: SignsLater + Drop, C: UnixClock, O: TsigLog + Drop> 
         request: &[u8],
         out: &mut [u8],
     ) -> Result<Option<usize>, Spent>
+        requires entitled { EntitlesUnsigned K.keys A.entitles (by_datagram self.old.peer) request.now }
         requires verified { verified ≡ received K.keys now request.now }
         requires header { HEADER ≤ length request.now }
         requires short { length request.now ≤ message_limit }
@@ -284,6 +293,7 @@ impl<'r, 'k, K: KeyRing, A: SignsLater + Drop, C: UnixClock, O: TsigLog + Drop> 
         request: &[u8],
         out: &mut [u8],
     ) -> Result<Option<usize>, Spent>
+        requires signed { received K.keys now request.now ≡ signed_by tsig }
         requires header { HEADER ≤ length request.now }
         requires short { length request.now ≤ message_limit }
         requires room { message_limit ≤ length out.old }
@@ -387,6 +397,7 @@ fn answer_with<R: Wait, A: SignsLater>(
     request: &[u8],
     out: &mut [u8],
 ) -> Result<Option<usize>, Spent>
+    requires entitled { A.entitles (by_datagram peer) request.now }
     requires room { message_limit ≤ length out.old }
     ensures grows { Grows {T = Version} (A.seen inner.new) (A.seen inner.old) }
     ensures bound { IfOk result (λ len. IfSome len (λ n. (n ≤ message_limit) × (n ≤ length out.new))) }
@@ -406,6 +417,7 @@ fn answer_as<R: Wait, A: SignsLater>(
     request: &[u8],
     out: &mut [u8],
 ) -> Result<Option<usize>, Spent>
+    requires entitled { A.entitles (by_datagram peer) request.now }
     requires room { message_limit ≤ length out.old }
     ensures grows { Grows {T = Version} (A.seen inner.new) (A.seen inner.old) }
     ensures bound { IfOk result (λ len. IfSome len (λ n. (n ≤ message_limit) × (n ≤ length out.new))) }
@@ -421,6 +433,8 @@ impl<'r, 'k, K: KeyRing, A: SignsLater + Drop, C: UnixClock, O: TsigLog + Drop> 
     ghost seen = { λ signed. A.seen signed.inner };
 
     ghost peer = { λ signed. signed.peer };
+
+    ghost entitles = { λ peer request. EntitlesUnsigned K.keys A.entitles peer request };
 
     ghost is_reply = { λ peer seen later request messages. IsReplyTo K.keys K.rights A.is_reply AreSignedAlone Grows peer seen later request messages };
 

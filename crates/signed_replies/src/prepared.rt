@@ -1,7 +1,10 @@
 //! Requests of connections that are signed, and are taken up before their turn (RFC 8945, 5.2).
 ghost use Rattle.std.specs.Prelude.{◌≡◌, ◌≤◌, length};
 ghost use Rattle.dns_message.specs.Message.{message_limit};
+ghost use Rattle.signed_replies.specs.Entitled.{EntitlesUnsigned};
+ghost use Rattle.signed_replies.specs.Signed.{received};
 ghost use Rattle.tcp_connections.specs.Asked.{EachGrows};
+ghost use Rattle.tsig.specs.declared.verifying.Verification.TheVariants.{Signed as signed_by};
 ghost use Rattle.zone_tree.specs.Version.{Version};
 
 use crate::clock::UnixClock;
@@ -27,6 +30,7 @@ fn prepare_as<R: Wait, M: Messages, A: Handler<M>>(
     request: &[u8],
     out: &mut [u8],
 ) -> bool
+    requires entitled { A.entitles peer request.now }
     requires room { message_limit ≤ length out.old }
     ensures grows { EachGrows {T = Version} (A.seen inner.new) (A.seen inner.old) }
 {
@@ -55,6 +59,7 @@ impl<
         request: &[u8],
         out: &mut [u8],
     ) -> bool
+        requires signed { received K.keys now request.now ≡ signed_by tsig }
         requires header { HEADER ≤ length request.now }
         requires short { length request.now ≤ message_limit }
         requires room { message_limit ≤ length out.old }
@@ -87,6 +92,8 @@ impl<
         request: &[u8],
         out: &mut [u8],
     ) -> bool
+        requires same { message.now ≡ request.now }
+        requires entitled { EntitlesUnsigned K.keys A.entitles self.old.peer request.now }
         requires header { HEADER ≤ length request.now }
         requires short { length request.now ≤ message_limit }
         requires room { message_limit ≤ length out.old }
@@ -125,6 +132,7 @@ impl<
         request: &[u8],
         out: &mut [u8],
     ) -> bool
+        requires entitled { EntitlesUnsigned K.keys A.entitles self.old.peer request.now }
         requires header { HEADER ≤ length request.now }
         requires short { length request.now ≤ message_limit }
         requires room { message_limit ≤ length out.old }

@@ -1,4 +1,5 @@
 //! A store that is compacted while updates continue (RFC 2136, 3.5; own).
+use dns_engine::FirstZone;
 use crate::event::CompactionLog;
 use crate::next_due::{begin_next, is_due};
 use crate::placed::{Placed, put_in_place};
@@ -189,7 +190,7 @@ impl<
         self.start(rt, alloc);
     }
 
-    fn append<W: Wait>(
+    fn append<W: Wait, Z: FirstZone>(
         &mut self,
         rt: &W,
         alloc: Global,
@@ -204,6 +205,6 @@ impl<
         if let Some(fault) = self.misplaced(alloc) {
             return Err(LogFault::Disk(fault));
         }
-        self.writer.append(rt, alloc, updates)
+        self.writer.append::<W, Z>(rt, alloc, updates)
     }
 }

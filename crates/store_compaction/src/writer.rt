@@ -1,4 +1,5 @@
 //! Writes a store's batches (own).
+use dns_engine::FirstZone;
 use crate::marked::Compaction;
 use crate::next::{NextJournal, NextText};
 use crate::recent_updates::RecentUpdates;
@@ -38,7 +39,8 @@ impl<D: Disk> StoreWriter<D> {
     ghost use Rattle.journal.specs.Recovered.{updates_in};
     ghost use Rattle.journal.specs.Disk.{LeavesOnly};
     ghost use Rattle.journal.specs.Log.{octets_of, Holds, IsStuck, disk_of, is_stuck};
-    ghost use Rattle.update_batches.specs.Batch.{versions_in, updates_of, logged};
+    ghost use Rattle.update_batches.specs.Entitled.{AreEntitled};
+ghost use Rattle.update_batches.specs.Batch.{versions_in, updates_of, logged};
     ghost use Rattle.store_compaction.specs.declared.marked.Compaction.{Compaction as Kept};
     ghost use Rattle.update_batches.specs.declared.version_update.VersionUpdate.{VersionUpdate as TrailStep};
     ghost use Rattle.store_compaction.specs.RecentUpdates.{followed};
@@ -66,13 +68,14 @@ impl<D: Disk> StoreWriter<D> {
     /// Writes the updates of a batch to disk, if there are any, and then adds them to the recent updates and to the current compaction. After a fault neither is changed: the journal
     /// has what it had, or accepts no more batches. All memory is allocated before anything is written, except the compaction's. If there is none for that, the compaction is given
     /// up.
-    pub fn append<R: Wait>(
+    pub fn append<R: Wait, Z: FirstZone>(
         &mut self,
         rt: &R,
         alloc: Global,
         updates: &[VersionUpdate],
     ) -> Result<(), LogFault<D::Fault>>
         requires short { length (batch_of (updates_of updates.now)) < body_limit }
+        requires entitled { AreEntitled Z.entitled (updates_of updates.now) }
         ensures on_disk { OnOk result ((head : HeadState) (bodies : List (List ℕ)) → Holds D.written D.synced head (log_of self.old) bodies
             → Holds D.written D.synced head (log_of self.new) (logged bodies (updates_of updates.now))) }
         ensures on_disk_still { OnErr result ((head : HeadState) (bodies : List (List ℕ)) → Holds D.written D.synced head (log_of self.old) bodies

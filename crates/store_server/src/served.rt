@@ -2,6 +2,7 @@
 ghost use Rattle.std.specs.Prelude.{◌≡◌, true, false};
 
 use crate::event::{StoreEvent, StoreLog, reason_of};
+use dns_engine::FirstZone;
 use journal::LogFault;
 use std::alloc::Global;
 use std::io;
@@ -82,7 +83,7 @@ impl<S: UpdateStore<Fault = LogFault<io::Error>>, L: StoreLog> UpdateStore
         }
     }
 
-    fn append<R: Wait>(
+    fn append<R: Wait, Z: FirstZone>(
         &mut self,
         rt: &R,
         alloc: Global,
@@ -92,7 +93,7 @@ impl<S: UpdateStore<Fault = LogFault<io::Error>>, L: StoreLog> UpdateStore
             ServerStore::Nowhere => return Ok(()),
             ServerStore::Store(logged) => logged,
         };
-        match logged.store.append(rt, alloc, updates) {
+        match logged.store.append::<R, Z>(rt, alloc, updates) {
             Ok(()) => {
                 if !updates.is_empty() {
                     tell_kept(rt, logged.log, &logged.state, &mut logged.failing);

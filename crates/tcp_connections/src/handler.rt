@@ -2,7 +2,7 @@
 ghost use Rattle.std.specs.Prelude.{◌≡◌, ◌≢◌, ℕ, ◌≤◌, ◌⊎◌, List, [], ◌∷◌, length, take, IfOk, IfErr, OnErr, MatchOption};
 ghost use Rattle.dns_message.specs.Message.{message_limit};
 ghost use Rattle.zone_tree.specs.Version.{Version};
-ghost use Rattle.requests.specs.Allowed.{IsReplyFrom, IsLaterFrom};
+ghost use Rattle.requests.specs.Allowed.{IsReplyFrom, IsLaterFrom, RulesEntitle};
 ghost use Rattle.serve_core.specs.declared.transport.Transport.TheVariants.{Tcp};
 ghost use Rattle.tcp_connections.specs.Served.{Knowledge};
 ghost use Rattle.requests.specs.declared.stream_end.StreamEnd.{StreamEnd as EndOf};
@@ -53,6 +53,9 @@ pub trait Handler<M: Messages> {
     /// The key of the peer's connection.
     ghost asker: { Self → ℕ };
 
+    /// Which requests a peer may have sent: what it may do is its own by that request.
+    ghost entitles: { PeerAsking → List ℕ → Type 0 };
+
     /// What the messages of a reply to a request are, by the peer, by the versions known before the reply, and by those known when it is
     /// made.
     ghost is_reply: { PeerAsking → Knowledge Version → Knowledge Version → List ℕ → List (List ℕ) → Type 0 };
@@ -83,7 +86,8 @@ pub trait Handler<M: Messages> {
         request: &[u8],
         out: &mut [u8],
     ) -> Result<Reply<M>, StreamEnd>
-        requires { message_limit ≤ length out.old }
+        requires room { message_limit ≤ length out.old }
+        requires entitled { entitles (peer self.old) request.now }
         ensures same { peer self.new ≡ peer self.old }
         ensures asker { asker self.new ≡ asker self.old }
         ensures grows { EachGrows (seen self.new) (seen self.old) }
@@ -96,7 +100,8 @@ pub trait Handler<M: Messages> {
     /// Takes up a request that comes after one whose reply is to be made later, with so many requests between the two, all of which are taken
     /// up: whether it is, and its reply is to be made later, too. If not, it is answered in its turn.
     fn prepare<R: Wait>(&mut self, rt: &R, between: usize, request: &[u8], out: &mut [u8]) -> bool
-        requires { message_limit ≤ length out.old }
+        requires room { message_limit ≤ length out.old }
+        requires entitled { entitles (peer self.old) request.now }
         ensures same { peer self.new ≡ peer self.old }
         ensures asker { asker self.new ≡ asker self.old }
         ensures grows { EachGrows (seen self.new) (seen self.old) };
@@ -113,7 +118,8 @@ pub(crate) fn reply_from<R: Wait, M: Messages, A: Handler<M>>(
     request: &[u8],
     out: &mut [u8],
 ) -> Result<Reply<M>, StreamEnd>
-    requires { message_limit ≤ length out.old }
+    requires entitled { RulesEntitle A.entitles allowed.entry.rules.now Tcp }
+    requires room { message_limit ≤ length out.old }
     ensures asker { A.asker handler.new ≡ A.asker handler.old }
     ensures grows { EachGrows (A.seen handler.new) (A.seen handler.old) }
     ensures bound { IfOk result (λ reply. (len : ℕ) → reply ≡ Reply.One len → (len ≤ message_limit) × (len ≤ length out.new)) }
@@ -145,7 +151,8 @@ pub(crate) fn prepare_from<R: Wait, M: Messages, A: Handler<M>>(
     request: &[u8],
     out: &mut [u8],
 ) -> bool
-    requires { message_limit ≤ length out.old }
+    requires entitled { RulesEntitle A.entitles allowed.entry.rules.now Tcp }
+    requires room { message_limit ≤ length out.old }
     ensures asker { A.asker handler.new ≡ A.asker handler.old }
     ensures grows { EachGrows (A.seen handler.new) (A.seen handler.old) }
 {

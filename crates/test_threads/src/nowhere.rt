@@ -1,4 +1,5 @@
 //! A store that keeps nothing.
+use dns_engine::FirstZone;
 use std::alloc::Global;
 use std::sync::Wait;
 use update_batches::{UpdateStore, VersionUpdate};
@@ -16,7 +17,7 @@ impl UpdateStore for Nowhere {
 
     fn tend<R: Wait>(&mut self, _rt: &R, _alloc: Global) {}
 
-    fn append<R: Wait>(
+    fn append<R: Wait, Z: FirstZone>(
         &mut self,
         _rt: &R,
         _alloc: Global,

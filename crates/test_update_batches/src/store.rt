@@ -1,6 +1,6 @@
 //! The stores of these tests.
 use crate::servers::ZONE;
-use dns_engine::{KEPT, SharedVersion};
+use dns_engine::{FirstZone, KEPT, SharedVersion};
 use journal::{Head, Log, LogFault, TextSum, recover, write_head};
 use memory_devices::{DiskFault, MemoryDisk};
 use std::alloc::Global;
@@ -27,7 +27,7 @@ impl UpdateStore for Store {
 
     fn tend<R: Wait>(&mut self, _rt: &R, _alloc: Global) {}
 
-    fn append<R: Wait>(
+    fn append<R: Wait, Z: FirstZone>(
         &mut self,
         rt: &R,
         alloc: Global,
@@ -35,7 +35,7 @@ impl UpdateStore for Store {
     ) -> Result<(), LogFault<DiskFault>> {
         match self {
             Store::Nowhere => Ok(()),
-            Store::Journal(writer) => writer.append(rt, alloc, updates),
+            Store::Journal(writer) => writer.append::<R, Z>(rt, alloc, updates),
         }
     }
 }

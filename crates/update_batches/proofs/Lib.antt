@@ -1,6 +1,7 @@
 pub mod BatchLemmas
 pub mod CrashLemmas
 mod DoneLemmas
+pub mod EntitledLemmas
 pub mod LastingLemmas
 pub mod ReadLemmas
 mod RequestLemmas

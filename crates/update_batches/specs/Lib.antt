@@ -1,6 +1,7 @@
 pub mod Batch
 pub mod Results
 pub mod Engine
+pub mod Entitled
 pub mod Journal
 pub mod ReadAs
 pub mod Reply

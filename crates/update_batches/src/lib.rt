@@ -28,7 +28,7 @@ mod version_update;
 
 pub use bounded_queue::{Most, Put};
 pub use judged::{MOST, judge_batch};
-pub use queue::Queue;
+pub use queue::{Anything, Entitled, Queue, Waits};
 pub use queued_update::{QueuedUpdate, ReplyTo};
 pub use replies::ReplyList;
 pub use store_state::{SharedStoreState, StoreState};

@@ -5,10 +5,12 @@ ghost use Rattle.zone_tree.specs.Version.{Version};
 ghost use Rattle.journal.specs.Batch.{Messages, batch_of};
 ghost use Rattle.journal.specs.Frame.{body_limit};
 ghost use Rattle.update_batches.specs.Engine.{IsLast};
+ghost use Rattle.update_batches.specs.Entitled.{AreEntitled};
 ghost use Rattle.update_batches.specs.Batch.{versions_in, updates_of};
 ghost use Rattle.update_batches.specs.Journal.{AreMadeBy};
 
 use crate::version_update::VersionUpdate;
+use dns_engine::FirstZone;
 use std::alloc::Global;
 use std::sync::Wait;
 
@@ -28,15 +30,16 @@ pub trait UpdateStore: Drop {
         ensures kept { (zone : List Record) (versions : List Version) (updates : List Messages) → has zone self.old versions updates → has zone self.new versions updates }
         ensures crash { (zone : List Record) (versions : List Version) (updates : List Messages) → has zone self.old versions updates → leaves zone self.old self.new updates };
 
-    /// Writes the updates of a batch that make a version, which a frame takes, as one batch: what it has stays, whenever it crashes. Of none it writes nothing, and does not fail. After a
+    /// Writes the updates of a batch that make a version, which may be made of the zone, and which a frame takes, as one batch: what it has stays, whenever it crashes. Of none it writes nothing, and does not fail. After a
     /// fault their versions may not be published. It allocates memory before anything is written.
-    fn append<R: Wait>(
+    fn append<R: Wait, Z: FirstZone>(
         &mut self,
         rt: &R,
         alloc: Global,
         updates: &[VersionUpdate],
     ) -> Result<(), Self::Fault>
         requires short { length (batch_of (updates_of updates.now)) < body_limit }
+        requires entitled { AreEntitled Z.entitled (updates_of updates.now) }
         ensures stored { OnOk result ((zone : List Record) (versions : List Version) (stood : List Messages) (last : Version) → has zone self.old versions stood
             → IsLast versions last → AreMadeBy last (versions_in updates.now) (updates_of updates.now)
             → has zone self.new (versions ++ versions_in updates.now) (stood ++ updates_of updates.now)) }

@@ -1,5 +1,6 @@
 //! The thread that judges updates, batch after batch (RFC 2136, 3 and 3.5).
 ghost use Rattle.std.specs.Prelude.{◌≡◌, ◌≤◌, ◌<◌, ◌+◌, [], ◌++◌, List, length, replicate, vec_capacity, min, max, MatchOption, IfOk, IfErr, OnOk, OnErr};
+ghost use Rattle.std.specs.List.{All};
 ghost use Rattle.dns_rdata.specs.Record.{Record};
 ghost use Rattle.zone_tree.specs.Version.{Version};
 ghost use Rattle.journal.specs.Batch.{Messages, batch_of};
@@ -8,16 +9,18 @@ ghost use Rattle.update_batches.specs.Engine.{IsLast};
 ghost use Rattle.update_batches.specs.declared.queued_update.QueuedUpdate.{QueuedUpdate as Queued};
 ghost use Rattle.update_batches.specs.Verdict.{failed};
 ghost use Rattle.update_batches.specs.Batch.{versions_in, updates_of};
+ghost use Rattle.update_batches.specs.Entitled.{MayBeMade, AreEntitled};
 ghost use Rattle.update_batches.specs.Journal.{AreMadeBy};
 ghost use Rattle.update_batches.specs.Turned.{state_of, HasTurned, HasServed};
 
 use crate::judged::{MOST, judge_batch};
-use crate::queue::Queue;
+use crate::queue::{Entitled, Queue};
 use crate::queued_update::QueuedUpdate;
 use crate::update_publisher::UpdatePublisher;
 use crate::update_store::UpdateStore;
 use crate::verdict::{Verdict, fail_all};
 use crate::version_update::VersionUpdate;
+use dns_engine::FirstZone;
 use std::alloc::Global;
 use std::mem;
 use std::sync::Wait;
@@ -29,11 +32,11 @@ pub const BATCH: usize = 64;
 #[derive(Clone, Copy)]
 pub struct Ended;
 
-/// Judges updates on a thread of its own.
-pub struct UpdateThread<'a, P: UpdatePublisher, S: UpdateStore> {
+/// Judges updates on a thread of its own: those that may be made of a zone.
+pub struct UpdateThread<'a, Z: FirstZone, P: UpdatePublisher, S: UpdateStore> {
     publisher: P,
     store: S,
-    queue: &'a Queue<QueuedUpdate>,
+    queue: &'a Queue<QueuedUpdate, Entitled<Z>>,
     alloc: Global,
     /// Updates that were taken from the queue, and wait for their batch.
     waiting: Vec<QueuedUpdate>,
@@ -41,9 +44,10 @@ pub struct UpdateThread<'a, P: UpdatePublisher, S: UpdateStore> {
     verdicts: Vec<Verdict>,
     ghost waiting_room: { 0 < vec_capacity waiting },
     ghost verdicts_room: { 64 ≤ vec_capacity verdicts },
+    ghost entitled: { All (MayBeMade Z.entitled) waiting.items },
 }
 
-impl<'a, P: UpdatePublisher, S: UpdateStore> Drop for UpdateThread<'a, P, S> {
+impl<'a, Z: FirstZone, P: UpdatePublisher, S: UpdateStore> Drop for UpdateThread<'a, Z, P, S> {
     fn drop(self) {
         let UpdateThread {
             publisher: _,
@@ -56,14 +60,14 @@ impl<'a, P: UpdatePublisher, S: UpdateStore> Drop for UpdateThread<'a, P, S> {
     }
 }
 
-impl<'a, P: UpdatePublisher, S: UpdateStore> UpdateThread<'a, P, S> {
+impl<'a, Z: FirstZone, P: UpdatePublisher, S: UpdateStore> UpdateThread<'a, Z, P, S> {
     /// The thread that judges the updates of a queue, and writes them to a store. It takes the memory for a batch; if there is none, the publisher and the store come back.
     pub fn new(
         alloc: Global,
         publisher: P,
         store: S,
-        queue: &'a Queue<QueuedUpdate>,
-    ) -> Result<UpdateThread<'a, P, S>, (P, S)>
+        queue: &'a Queue<QueuedUpdate, Entitled<Z>>,
+    ) -> Result<UpdateThread<'a, Z, P, S>, (P, S)>
         ensures begun { IfOk result (λ thread. (thread.publisher ≡ publisher) × (thread.store ≡ store)) }
         ensures given_back { IfErr result (λ back. (back.0 ≡ publisher) × (back.1 ≡ store)) }
     {
@@ -139,7 +143,13 @@ impl<'a, P: UpdatePublisher, S: UpdateStore> UpdateThread<'a, P, S> {
             room.min(MOST),
             &mut self.verdicts,
         );
-        let (updates, fault) = keep(rt, self.alloc, &mut self.store, updates, &mut self.verdicts);
+        let (updates, fault) = keep::<R, Z, S>(
+            rt,
+            self.alloc,
+            &mut self.store,
+            updates,
+            &mut self.verdicts,
+        );
         self.publisher
             .finish(rt, &mut self.waiting, count, &self.verdicts, updates);
         self.store.tend(rt, self.alloc);
@@ -172,7 +182,7 @@ fn first_of(waiting: usize, room: usize) -> usize
 
 /// Has the store write the updates of a batch that make a version; of none it writes nothing, and does not fail. After a fault, which comes back, each update of the batch gets
 /// SERVFAIL, and none makes a version.
-fn keep<R: Wait, S: UpdateStore>(
+fn keep<R: Wait, Z: FirstZone, S: UpdateStore>(
     rt: &R,
     alloc: Global,
     store: &mut S,
@@ -180,6 +190,7 @@ fn keep<R: Wait, S: UpdateStore>(
     verdicts: &mut Vec<Verdict>,
 ) -> (Vec<VersionUpdate>, Option<S::Fault>)
     requires short { length (batch_of (updates_of updates.items)) < body_limit }
+    requires entitled { AreEntitled Z.entitled (updates_of updates.items) }
     ensures kept { MatchOption result.1
         ((result.0.items ≡ updates.items) × (verdicts.new.items ≡ verdicts.old.items))
         (λ _. (result.0.items ≡ []) × (verdicts.new.items ≡ replicate (length verdicts.old.items) failed) × (0 < length updates.items)) }
@@ -190,7 +201,7 @@ fn keep<R: Wait, S: UpdateStore>(
     ensures crash { (zone : List Record) (versions : List Version) (stood : List Messages) → S.has zone store.old versions stood → S.leaves zone store.old store.new stood }
     ensures verdicts_room { vec_capacity verdicts.new ≡ vec_capacity verdicts.old }
 {
-    match store.append(rt, alloc, &updates) {
+    match store.append::<R, Z>(rt, alloc, &updates) {
         Ok(()) => (updates, None),
         Err(fault) => {
             fail_all(verdicts);

@@ -51,7 +51,7 @@ pub struct ConnectionHandler<'a, 's, Z: FirstZone, N: ServerName, L> {
     /// The rules by which the log names a record that isn't permitted.
     allowed: Option<Allowed<'a>>,
     /// The sender to the update thread. None where the engine answers updates at once.
-    sender: Option<UpdateSender<'a>>,
+    sender: Option<UpdateSender<'a, Z>>,
     taken: PendingUpdates<N>,
 }
 
@@ -68,7 +68,10 @@ impl<'a, 's, Z: FirstZone, N: ServerName, L> Model for ConnectionHandler<'a, 's,
 }
 
 /// The sender, where there is room for an update that waits.
-fn sender_with<'a>(has_room: bool, sender: UpdateSender<'a>) -> Option<UpdateSender<'a>>
+fn sender_with<'a, Z: FirstZone>(
+    has_room: bool,
+    sender: UpdateSender<'a, Z>,
+) -> Option<UpdateSender<'a, Z>>
     ensures { has_room ≡ false → result ≡ None }
 {
     if has_room { Some(sender) } else { None }
@@ -81,7 +84,7 @@ fn submit_after<R: Wait, Z: FirstZone, N: ServerName>(
     alloc: Global,
     server: &Server<'_, Z, N>,
     reader: &mut VersionReader<N>,
-    sender: UpdateSender<'_>,
+    sender: UpdateSender<'_, Z>,
     key: usize,
     peer: Peer,
     pending: PendingUpdate<N>,
@@ -90,6 +93,7 @@ fn submit_after<R: Wait, Z: FirstZone, N: ServerName>(
 ) -> (PendingUpdate<N>, bool)
     requires update { IsUpdate request.now }
     requires may { peer.may_update ≡ true }
+    requires entitled { Z.entitled (request.now ∷ []) }
     requires room { room_of peer.transport ≤ length out.old }
     ensures pending { (more : List WaitingTicketOf) × (result.0 ≡ with_more pending more) }
     ensures grows { Grows {T = Version} (learned_by reader.new) (learned_by reader.old) }
@@ -143,7 +147,7 @@ impl<'a, 's, Z: FirstZone, N: ServerName, L: ServiceLog> ConnectionHandler<'a, '
     }
 
     /// The same handler, which submits updates of peers that may update to the update thread, and answers them later.
-    pub fn with_sender(self, sender: UpdateSender<'a>) -> ConnectionHandler<'a, 's, Z, N, L>
+    pub fn with_sender(self, sender: UpdateSender<'a, Z>) -> ConnectionHandler<'a, 's, Z, N, L>
         ensures reader { result.reader ≡ self.entry.reader }
         ensures peer { result.peer ≡ self.entry.peer }
         ensures asker { result.asker ≡ self.entry.asker }
@@ -191,7 +195,7 @@ impl<'a, 's, Z: FirstZone, N: ServerName, L: ServiceLog> ConnectionHandler<'a, '
     }
 
     /// The sender for a request: some exactly where the handler submits updates and the request is an update of a peer that may update.
-    fn sender_for(&self, request: &[u8]) -> Option<UpdateSender<'a>>
+    fn sender_for(&self, request: &[u8]) -> Option<UpdateSender<'a, Z>>
         ensures { MatchOption result ((self.now.submits ≡ false) ⊎ (IsLater self.now.peer request.now → ⊥)) (λ _. IsLater self.now.peer request.now × (self.now.submits ≡ true)) }
     {
         let Some(sender) = self.sender else {
@@ -257,11 +261,12 @@ impl<'a, 's, Z: FirstZone, N: ServerName, L: ServiceLog> ConnectionHandler<'a, '
     fn take_up<R: Wait>(
         &mut self,
         rt: &R,
-        sender: UpdateSender<'a>,
+        sender: UpdateSender<'a, Z>,
         request: &[u8],
         out: &mut [u8],
     ) -> Reply<Transfer>
         requires later { IsLater self.old.peer request.now }
+        requires entitled { Z.entitled (request.now ∷ []) }
         requires none { place_in self.old.taken self.old.asker ≡ None }
         requires room { message_limit ≤ length out.old }
         ensures peer { self.new.peer ≡ self.old.peer }
@@ -392,6 +397,7 @@ impl<'a, 's, Z: FirstZone, N: ServerName, L: ServiceLog> ConnectionHandler<'a, '
     /// those that are were another connection's. `Later` while it is pending, and so only for an update of a peer that may update.
     fn reply_update<R: Wait>(&mut self, rt: &R, request: &[u8], out: &mut [u8]) -> Reply<Transfer>
         requires update { IsUpdate request.now }
+        requires entitled { self.old.peer.may_update ≡ true → Z.entitled (request.now ∷ []) }
         requires other { (self.old.submits ≡ false) ⊎ (IsLater self.old.peer request.now → ⊥) → place_in self.old.taken self.old.asker ≡ None }
         requires room { message_limit ≤ length out.old }
         ensures peer { self.new.peer ≡ self.old.peer }
@@ -417,11 +423,12 @@ impl<'a, 's, Z: FirstZone, N: ServerName, L: ServiceLog> ConnectionHandler<'a, '
     fn submit_more<R: Wait>(
         &mut self,
         rt: &R,
-        sender: UpdateSender<'a>,
+        sender: UpdateSender<'a, Z>,
         request: &[u8],
         out: &mut [u8],
     ) -> bool
         requires later { IsLater self.old.peer request.now }
+        requires entitled { Z.entitled (request.now ∷ []) }
         requires room { message_limit ≤ length out.old }
         ensures peer { self.new.peer ≡ self.old.peer }
         ensures asker { self.new.asker ≡ self.old.asker }
@@ -457,6 +464,8 @@ impl<'a, 's, Z: FirstZone, N: ServerName, L: ServiceLog> Handler<Transfer>
 
     ghost asker = { λ replies. replies.asker };
 
+    ghost entitles = { λ peer request. peer.may_update ≡ true → Z.entitled (request ∷ []) };
+
     ghost is_reply = { λ peer known later request messages. IsMadeBy Z.zone peer known later request messages };
 
     ghost is_later = { IsLater };
@@ -480,7 +489,8 @@ impl<'a, 's, Z: FirstZone, N: ServerName, L: ServiceLog> Handler<Transfer>
         request: &[u8],
         out: &mut [u8],
     ) -> Result<Reply<Transfer>, StreamEnd>
-        requires { message_limit ≤ length out.old }
+        requires room { message_limit ≤ length out.old }
+        requires entitled { self.old.peer.may_update ≡ true → Z.entitled (request.now ∷ []) }
         ensures same { self.new.peer ≡ self.old.peer }
         ensures asker { self.new.asker ≡ self.old.asker }
         ensures submits { self.new.submits ≡ self.old.submits }

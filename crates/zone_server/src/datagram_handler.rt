@@ -52,7 +52,7 @@ pub struct DatagramHandler<'a, 's, Z: FirstZone, N: ServerName, L> {
     /// The rules by which the log names a record that isn't permitted.
     allowed: Option<Allowed<'a>>,
     /// The queue for updates, unless the engine answers them.
-    sender: Option<UpdateSender<'a>>,
+    sender: Option<UpdateSender<'a, Z>>,
     /// The TSIG that the request came with, if it was signed.
     tsig: Option<RequestTsig>,
 }
@@ -86,7 +86,7 @@ impl<'a, 's, Z: FirstZone, N: ServerName, L: ServiceLog> DatagramHandler<'a, 's,
     }
 
     /// The same handler, which submits the updates of peers that may update to the update thread. That thread sends the replies.
-    pub fn with_sender(self, sender: UpdateSender<'a>) -> DatagramHandler<'a, 's, Z, N, L>
+    pub fn with_sender(self, sender: UpdateSender<'a, Z>) -> DatagramHandler<'a, 's, Z, N, L>
         ensures reader { result.reader ≡ self.entry.reader }
         ensures peer { result.peer ≡ self.entry.peer }
         ensures sender { result.sender ≡ Some sender.entry }
@@ -119,12 +119,13 @@ impl<'a, 's, Z: FirstZone, N: ServerName, L: ServiceLog> DatagramHandler<'a, 's,
     fn submit_datagram<R: Wait>(
         &mut self,
         rt: &R,
-        sender: UpdateSender<'a>,
+        sender: UpdateSender<'a, Z>,
         peer: Peer,
         request: &[u8],
         out: &mut [u8],
     ) -> Option<usize>
         requires update { IsUpdate request.now × (peer.may_update ≡ true) }
+        requires entitled { Z.entitled (request.now ∷ []) }
         requires datagram { peer.transport ≡ Transport.Udp }
         requires reply_room { message_limit ≤ length out.old }
         ensures peer { self.new.peer ≡ self.old.peer }
@@ -166,6 +167,7 @@ impl<'a, 's, Z: FirstZone, N: ServerName, L: ServiceLog> DatagramHandler<'a, 's,
         out: &mut [u8],
     ) -> Option<usize>
         requires update { IsUpdate request.now }
+        requires entitled { peer.may_update ≡ true → Z.entitled (request.now ∷ []) }
         requires datagram { peer.transport ≡ Transport.Udp }
         requires reply_room { message_limit ≤ length out.old }
         ensures peer { self.new.peer ≡ self.old.peer }
@@ -208,6 +210,9 @@ impl<'a, 's, Z: FirstZone, N: ServerName, L: ServiceLog> Handler
 
     ghost peer = { λ asked. asked.peer };
 
+    // A peer that may update may make the update of the request.
+    ghost entitles = { λ peer request. peer.may_update ≡ true → Z.entitled (request ∷ []) };
+
     // An update that is submitted gets no reply now.
     ghost is_reply = { λ peer known later request messages. IsAnswered Z.zone peer known later request messages };
 
@@ -238,7 +243,8 @@ impl<'a, 's, Z: FirstZone, N: ServerName, L: ServiceLog> Handler
         request: &[u8],
         out: &mut [u8],
     ) -> Result<Option<usize>, Spent>
-        requires { message_limit ≤ length out.old }
+        requires room { message_limit ≤ length out.old }
+        requires entitled { self.old.peer.may_update ≡ true → Z.entitled (request.now ∷ []) }
         ensures same { self.new.peer ≡ self.old.peer }
         ensures sender { self.new.sender ≡ self.old.sender }
         ensures grows { Grows {T = Version} (learned_by self.new.reader) (learned_by self.old.reader) }
@@ -316,6 +322,8 @@ impl<'a, 's, Z: FirstZone, N: ServerName, L: ServiceLog> Notifying
 
 impl<'a, 's, Z: FirstZone, N: ServerName, L: ServiceLog> LocalUpdates
     for DatagramHandler<'a, 's, Z, N, L> {
+    ghost own = { Z.entitled };
+
     fn last_version<R: Wait>(&mut self, rt: &R) -> Result<SharedVersion, Spent> {
         let strong = self.server.cell().load(&mut self.reader)?;
         Ok(strong.get().share(rt))

@@ -12,6 +12,9 @@ use update_batches::UpdateRequest;
 
 /// A handler of a thread that submits updates of its own: they are judged, stored and published as those of peers that may update.
 pub trait LocalUpdates: Handler {
+    /// Which updates the server may make itself, by their messages.
+    ghost own: { List (List ℕ) → Type 0 };
+
     /// The version published last. Fails with [`Spent`] if no version can be loaded.
     fn last_version<R: Wait>(&mut self, rt: &R) -> Result<SharedVersion, Spent>
         ensures grows { Grows (Self.seen self.new) (Self.seen self.old) }
@@ -35,6 +38,7 @@ pub trait LocalUpdates: Handler {
         is_held: bool,
     ) -> Option<WaitingTicket>
         requires may { request.may ≡ true }
+        requires own { own request.messages }
         ensures grows { Grows (Self.seen self.new) (Self.seen self.old) };
 
     /// The result at a ticket, if it is there yet. If it is not, the ticket comes back.

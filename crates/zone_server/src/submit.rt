@@ -21,14 +21,14 @@ use std::alloc::Global;
 use std::net::SocketAddr;
 use std::sync::Wait;
 use tsig::RequestTsig;
-use update_batches::{Put, Queue, QueuedUpdate, ReplyTo, UpdateRequest};
+use update_batches::{Entitled, Put, Queue, QueuedUpdate, ReplyTo, UpdateRequest};
 use wire_names::NameWriter;
 
 /// A worker's access to the update queue.
-#[derive(Clone, Copy)]
-pub struct UpdateSender<'a> {
-    /// The queue.
-    pub queue: &'a Queue<QueuedUpdate>,
+#[derive_where(Clone, Copy)]
+pub struct UpdateSender<'a, Z: FirstZone> {
+    /// The queue, in which updates wait that may be made of the zone.
+    pub queue: &'a Queue<QueuedUpdate, Entitled<Z>>,
     /// The worker's number.
     pub worker: usize,
 }
@@ -85,15 +85,16 @@ fn memory_of(asked: &UpdateRequest) -> usize
 }
 
 /// Puts an update into the queue: the queue's receipt, or None if it has no room for it or there is no memory.
-fn put_update<R: Wait>(
+fn put_update<R: Wait, Z: FirstZone>(
     rt: &R,
     alloc: Global,
-    sender: UpdateSender<'_>,
+    sender: UpdateSender<'_, Z>,
     update: Update,
     request: &[u8],
     reply_to: ReplyTo,
 ) -> Option<Put>
-    requires { reads request.now ≡ SaysUpdate update }
+    requires read { reads request.now ≡ SaysUpdate update }
+    requires entitled { Z.entitled (request.now ∷ []) }
 {
     let request = asked_of(alloc, update, request)?;
     let octets = memory_of(&request);
@@ -125,7 +126,7 @@ pub fn submit_stream<R: Wait, Z: FirstZone, N: ServerName>(
     alloc: Global,
     server: &Server<'_, Z, N>,
     reader: &mut VersionReader<N>,
-    sender: Option<UpdateSender<'_>>,
+    sender: Option<UpdateSender<'_, Z>>,
     key: usize,
     peer: Peer,
     request: &[u8],
@@ -133,6 +134,7 @@ pub fn submit_stream<R: Wait, Z: FirstZone, N: ServerName>(
 ) -> Submitted
     requires update { IsUpdate request.now }
     requires may { peer.may_update ≡ true }
+    requires entitled { Z.entitled (request.now ∷ []) }
     requires room { room_of peer.transport ≤ length out.old }
     ensures submitted { IsSubmitted Z.zone peer request.now reader.old reader.new out.new result }
     ensures unsent { sender.entry ≡ None → HasReply result }
@@ -181,11 +183,12 @@ pub(crate) fn submit_own<R: Wait, Z: FirstZone, N: ServerName>(
     rt: &R,
     server: &Server<'_, Z, N>,
     reader: &mut VersionReader<N>,
-    sender: UpdateSender<'_>,
+    sender: UpdateSender<'_, Z>,
     request: UpdateRequest,
     is_held: bool,
 ) -> Option<WaitingTicket>
     requires may { request.may ≡ true }
+    requires entitled { Z.entitled request.messages }
     ensures met { (number : ℕ) × MeetsAt Z.zone reader.old reader.new number }
 {
     let (_, opened) = server.open(rt, reader);
@@ -213,12 +216,14 @@ pub(crate) fn submit_own<R: Wait, Z: FirstZone, N: ServerName>(
 }
 
 /// Puts an update that the server makes itself after all that wait, or before them.
-fn put_own<R: Wait>(
+fn put_own<R: Wait, Z: FirstZone>(
     rt: &R,
-    queue: &Queue<QueuedUpdate>,
+    queue: &Queue<QueuedUpdate, Entitled<Z>>,
     update: QueuedUpdate,
     is_held: bool,
-) -> Result<Put, QueuedUpdate> {
+) -> Result<Put, QueuedUpdate>
+    requires entitled { Z.entitled update.request.messages }
+{
     if is_held {
         queue.put_first(rt, update, 0)
     } else {
@@ -232,7 +237,7 @@ pub fn submit_datagram<R: Wait, Z: FirstZone, N: ServerName>(
     alloc: Global,
     server: &Server<'_, Z, N>,
     reader: &mut VersionReader<N>,
-    sender: UpdateSender<'_>,
+    sender: UpdateSender<'_, Z>,
     to: SocketAddr,
     tsig: Option<RequestTsig>,
     peer: Peer,
@@ -241,6 +246,7 @@ pub fn submit_datagram<R: Wait, Z: FirstZone, N: ServerName>(
 ) -> DatagramSubmitted
     requires update { IsUpdate request.now }
     requires may { peer.may_update ≡ true }
+    requires entitled { Z.entitled (request.now ∷ []) }
     requires room { room_of peer.transport ≤ length out.old }
     ensures { IsDatagramSubmitted Z.zone peer request.now reader.old reader.new out.new result }
 {

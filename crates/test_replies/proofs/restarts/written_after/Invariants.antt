@@ -2,4 +2,4 @@
 use Rattle.test_replies.proofs.restarts.written_after.Given as goal
 
 abbrev pub ghosts-written_from : goal.ghosts-written_from
-ghosts-written_from g a = record { zone = a.first.zone }
+ghosts-written_from g a = record { zone = a.first.zone; entitled = λ messages. Unit {0} }

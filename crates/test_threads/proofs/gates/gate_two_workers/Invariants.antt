@@ -2,4 +2,4 @@
 use Rattle.test_threads.proofs.gates.gate_two_workers.Given as goal
 
 abbrev pub ghosts-serve_from : goal.ghosts-serve_from
-ghosts-serve_from g a = record { zone = a.zone }
+ghosts-serve_from g a = record { zone = a.zone; entitled = λ messages. Unit {0} }
