@@ -2,7 +2,7 @@
 ghost use Rattle.std.specs.Prelude.{◌≡◌, ◌<◌, ◌≤◌, length, IfErr, OnOk};
 ghost use Rattle.std.specs.Net.Socket.{socket_ip};
 ghost use Rattle.dns_message.specs.Message.{message_limit};
-ghost use Rattle.requests.specs.Allowed.{IsReplyFrom, IsLaterFrom};
+ghost use Rattle.requests.specs.Allowed.{IsReplyFrom, IsLaterFrom, RulesEntitle};
 ghost use Rattle.serve_core.specs.declared.transport.Transport.TheVariants.{Tcp};
 ghost use Rattle.tcp_connections.specs.Asked.{EachGrows};
 ghost use Rattle.tcp_connections.specs.Kept.{told_by, nothing_kept};
@@ -143,6 +143,7 @@ pub(crate) fn serve_connection<R: Wait, S: Blocking + Drop, M: Messages, A: Hand
     room: &mut [u8],
     out: &mut [u8],
 ) -> Result<Step, StreamEnd>
+    requires entitled { RulesEntitle A.entitles allowed.entry.rules.now Tcp }
     requires room { 0 < length room.old }
     requires out { message_limit ≤ length out.old }
     ensures from { connection.new.from ≡ connection.old.from }

@@ -3,7 +3,7 @@ ghost use Rattle.std.specs.Prelude.{◌≡◌, ◌≢◌, ℕ, ◌<◌, ◌≤�
 ghost use Rattle.dns_message.specs.Frame.{frame_in};
 ghost use Rattle.dns_message.specs.Message.{message_limit};
 ghost use Rattle.requests.specs.Octets.{frames_of};
-ghost use Rattle.requests.specs.Allowed.{IsReplyFrom, IsLaterFrom};
+ghost use Rattle.requests.specs.Allowed.{IsReplyFrom, IsLaterFrom, RulesEntitle};
 ghost use Rattle.tcp_connections.specs.Exchange.{Exchange};
 ghost use Rattle.requests.specs.declared.stream_end.StreamEnd.{StreamEnd as EndOf};
 ghost use Rattle.serve_core.specs.declared.transport.Transport.TheVariants.{Tcp};
@@ -197,7 +197,8 @@ impl<M: Messages> ConnectionState<M> {
         from: SocketAddr,
         out: &mut [u8],
     ) -> Result<Step, StreamEnd>
-        requires { message_limit ≤ length out.old }
+        requires entitled { RulesEntitle A.entitles allowed.entry.rules.now Tcp }
+        requires out { message_limit ≤ length out.old }
         ensures asker { A.asker handler.new ≡ A.asker handler.old }
         ensures grows { EachGrows (A.seen handler.new) (A.seen handler.old) }
         ensures turn { result ≡ Ok Step.More → Exchange (IsReplyFrom A.is_reply allowed.entry.rules.now Tcp from) (A.seen handler.old (A.asker handler.old)) (self.old.held, due self.old) (A.seen handler.new (A.asker handler.old)) (self.new.held, due self.new) }
@@ -296,7 +297,8 @@ fn prepare_next<R: Wait, M: Messages, A: Handler<M>>(
     octets: &[u8],
     out: &mut [u8],
 )
-    requires { message_limit ≤ length out.old }
+    requires entitled { RulesEntitle A.entitles allowed.entry.rules.now Tcp }
+    requires out { message_limit ≤ length out.old }
     ensures asker { A.asker handler.new ≡ A.asker handler.old }
     ensures grows { EachGrows (A.seen handler.new) (A.seen handler.old) }
 {

@@ -2,7 +2,7 @@
 ghost use Rattle.std.specs.Prelude.{◌≡◌, ◌≢◌, ◌⊎◌, ◌<◌, ◌≤◌, None, [], length, IfErr, OnOk};
 ghost use Rattle.dns_message.specs.Frame.{frame_in};
 ghost use Rattle.dns_message.specs.Message.{message_limit};
-ghost use Rattle.requests.specs.Allowed.{IsReplyFrom, IsLaterFrom};
+ghost use Rattle.requests.specs.Allowed.{IsReplyFrom, IsLaterFrom, RulesEntitle};
 ghost use Rattle.serve_core.specs.declared.transport.Transport.TheVariants.{Tcp};
 ghost use Rattle.tcp_connections.specs.Asked.{EachGrows, Waits};
 ghost use Rattle.tcp_connections.specs.Kept.{IsWaiting, told_by};
@@ -37,7 +37,8 @@ fn answer_some<R: Wait, M: Messages, A: Handler<M>>(
     state: &mut ConnectionState<M>,
     out: &mut [u8],
 ) -> Result<Step, StreamEnd>
-    requires { message_limit ≤ length out.old }
+    requires entitled { RulesEntitle A.entitles allowed.entry.rules.now Tcp }
+    requires out { message_limit ≤ length out.old }
     ensures asker { A.asker handler.new ≡ A.asker handler.old }
     ensures grows { EachGrows (A.seen handler.new) (A.seen handler.old) }
     ensures keeps { Keeps (IsReplyFrom A.is_reply allowed.entry.rules.now Tcp from) (A.seen handler.old (A.asker handler.old)) state.old (A.seen handler.new (A.asker handler.old)) state.new }
@@ -210,6 +211,7 @@ pub fn serve_some<R: Wait, M: Messages, A: Handler<M>, S: Blocking>(
     room: &mut [u8],
     out: &mut [u8],
 ) -> Result<Step, StreamEnd>
+    requires entitled { RulesEntitle A.entitles allowed.entry.rules.now Tcp }
     requires room { 0 < length room.old }
     requires out { message_limit ≤ length out.old }
     ensures asker { A.asker handler.new ≡ A.asker handler.old }

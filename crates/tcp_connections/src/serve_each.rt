@@ -1,7 +1,7 @@
 //! Connections that are served, each under its key.
 ghost use Rattle.std.specs.Prelude.{◌≡◌, ◌≢◌, ◌<◌, ◌≤◌, ◌⊎◌, ℕ, false, length, option_map, All, Contains, OnOk, OnErr};
 ghost use Rattle.dns_message.specs.Message.{message_limit};
-ghost use Rattle.requests.specs.Allowed.{IsReplyFrom, IsLaterFrom};
+ghost use Rattle.requests.specs.Allowed.{IsReplyFrom, IsLaterFrom, RulesEntitle};
 ghost use Rattle.serve_core.specs.declared.transport.Transport.TheVariants.{Tcp};
 ghost use Rattle.requests.specs.Served.{BeginsWith};
 ghost use Rattle.tcp_connections.specs.Asked.{EachGrows};
@@ -32,6 +32,7 @@ fn serve_key<R: Wait, S: Blocking + Drop, M: Messages, A: Handler<M>>(
     room: &mut [u8],
     out: &mut [u8],
 ) -> bool
+    requires entitled { RulesEntitle A.entitles allowed.entry.rules.now Tcp }
     requires room { 0 < length room.old }
     requires out { message_limit ≤ length out.old }
     ensures grows { EachGrows (A.seen handler.new) (A.seen handler.old) }
@@ -71,6 +72,7 @@ pub fn serve_ready<R: Wait, S: Blocking + Drop, M: Messages, A: Handler<M>>(
     room: &mut [u8],
     out: &mut [u8],
 ) -> Result<(), AllocError>
+    requires entitled { RulesEntitle A.entitles allowed.entry.rules.now Tcp }
     requires room { 0 < length room.old }
     requires out { message_limit ≤ length out.old }
     ensures grows { EachGrows (A.seen handler.new) (A.seen handler.old) }

@@ -2,7 +2,7 @@
 ghost use Rattle.std.specs.Prelude.{◌≡◌, ◌⊎◌, ◌-◌, ◌^◌, ◌<◌, ◌≤◌, None, length, IfSome, IfErr};
 ghost use Rattle.dns_message.specs.Frame.{frame_in};
 ghost use Rattle.dns_message.specs.Message.{message_limit};
-ghost use Rattle.requests.specs.Allowed.{IsReplyFrom};
+ghost use Rattle.requests.specs.Allowed.{IsReplyFrom, RulesEntitle};
 ghost use Rattle.tcp_connections.specs.Served.{EndsAs};
 ghost use Rattle.requests.specs.declared.stream_end.StreamEnd.{StreamEnd as End};
 ghost use Rattle.serve_core.specs.declared.transport.Transport.TheVariants.{Tcp};
@@ -28,7 +28,8 @@ fn answer_through<R: Wait, M: Messages, A: Handler<M>, G: Gate>(
     gate: &G,
     out: &mut [u8],
 ) -> Result<Step, StreamEnd>
-    requires { message_limit ≤ length out.old }
+    requires entitled { RulesEntitle A.entitles allowed.entry.rules.now Tcp }
+    requires out { message_limit ≤ length out.old }
     ensures asker { A.asker handler.new ≡ A.asker handler.old }
     ensures grows { EachGrows (A.seen handler.new) (A.seen handler.old) }
     ensures keeps { Keeps (IsReplyFrom A.is_reply allowed.entry.rules.now Tcp from) (A.seen handler.old (A.asker handler.old)) state.old (A.seen handler.new (A.asker handler.old)) state.new }
@@ -63,6 +64,7 @@ pub fn serve_stream<R: Wait, M: Messages, A: Handler<M>, S: Stream, G: Gate>(
     room: &mut [u8],
     out: &mut [u8],
 ) -> StreamEnd
+    requires entitled { RulesEntitle A.entitles allowed.entry.rules.now Tcp }
     requires counting { stream.old.faults < 2 ^ 64 - 1 }
     requires room { 0 < length room.old }
     requires out { message_limit ≤ length out.old }

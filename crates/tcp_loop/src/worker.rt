@@ -1,7 +1,7 @@
 //! A worker thread's connections, and its turns.
 ghost use Rattle.std.specs.Prelude.{◌≡◌, ◌<◌, ◌≤◌, ◌⊎◌, ◌-◌, ◌/◌, ℕ, List, length, replicate, true, false, None, IfOk, IfSome, OnOk};
 ghost use Rattle.dns_message.specs.Message.{message_limit};
-ghost use Rattle.requests.specs.Allowed.{IsReplyFrom, IsLaterFrom};
+ghost use Rattle.requests.specs.Allowed.{IsReplyFrom, IsLaterFrom, RulesEntitle};
 ghost use Rattle.serve_core.specs.declared.transport.Transport.TheVariants.{Tcp};
 ghost use Rattle.tcp_connections.specs.Asked.{EachGrows};
 ghost use Rattle.std.specs.Net.Socket.{socket_ip};
@@ -361,6 +361,7 @@ impl<S: Blocking + Remote + Drop, M: Messages> EventLoop<S, M> {
         room: &mut [u8],
         out: &mut [u8],
     ) -> Result<(), TurnEnd>
+        requires entitled { RulesEntitle A.entitles plan.entry.allowed.rules.now Tcp }
         requires room { 0 < length room.old }
         requires out { message_limit ≤ length out.old }
         ensures grows { EachGrows (A.seen handler.new) (A.seen handler.old) }

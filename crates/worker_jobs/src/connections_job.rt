@@ -1,6 +1,6 @@
 //! A worker's job on connections (RFC 7766, 6.2).
 ghost use Rattle.std.specs.Prelude.{◌≡◌, ◌⊎◌, Some};
-ghost use Rattle.requests.specs.Allowed.{IsReplyFrom};
+ghost use Rattle.requests.specs.Allowed.{IsReplyFrom, RulesEntitle};
 ghost use Rattle.serve_core.specs.declared.transport.Transport.TheVariants.{Tcp};
 ghost use Rattle.tcp_connections.specs.Asked.{EachGrows};
 ghost use Rattle.tcp_loop.specs.Steps.{Turned};
@@ -229,7 +229,9 @@ impl<
         handler: &mut A,
         log: &O,
     ) -> Option<JobEnd>
+        requires entitled { RulesEntitle A.entitles self.old.plan.allowed.rules.now Tcp }
         ensures grows { EachGrows (A.seen handler.new) (A.seen handler.old) }
+        ensures allowed { self.new.plan.allowed ≡ self.old.plan.allowed }
         ensures turned { Turned S.origin S.octets (IsReplyFrom A.is_reply self.old.plan.allowed.rules.now Tcp) self.old.plan.limits (A.seen handler.old) self.old.event_loop.connections (A.seen handler.new) self.new.event_loop.connections }
         ensures number { self.new.number ≡ self.old.number }
         ensures plan { self.new.plan ≡ self.old.plan }
@@ -266,6 +268,7 @@ impl<
         handler: &mut A,
         log: &O,
     ) -> JobEnd
+        requires entitled { RulesEntitle A.entitles self.old.plan.allowed.rules.now Tcp }
         ensures grows { EachGrows (A.seen handler.new) (A.seen handler.old) }
         ensures turned { Turned S.origin S.octets (IsReplyFrom A.is_reply self.old.plan.allowed.rules.now Tcp) self.old.plan.limits (A.seen handler.old) self.old.event_loop.connections (A.seen handler.new) self.new.event_loop.connections }
         ensures number { self.new.number ≡ self.old.number }

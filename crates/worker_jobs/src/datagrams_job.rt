@@ -1,4 +1,6 @@
 //! A worker's job on a UDP socket (RFC 1035, 4.2.1).
+ghost use Rattle.serve_core.specs.declared.transport.Transport.TheVariants.{Udp};
+ghost use Rattle.requests.specs.Allowed.{RulesEntitle};
 ghost use Rattle.std.specs.Prelude.{◌≡◌, ◌-◌, ◌^◌, Some, IfSome};
 ghost use Rattle.zone_server.specs.declared.service_log.JobEnd.{JobEnd as EndOfJob};
 ghost use Rattle.requests.specs.Served.{Grows};
@@ -92,6 +94,7 @@ impl<'a, D: Datagrams> DatagramsJob<'a, D> {
     /// Answers datagrams as they come, until none can be received any more or no version can be loaded, and gives how that ended. Each peer may
     /// update and transfer by its own address (RFC 1035, 4.2.1).
     pub fn serve<R: Wait, A: Handler>(&mut self, rt: &R, handler: &mut A) -> JobEnd
+        requires entitled { RulesEntitle A.entitles self.old.job.allowed.rules.now Udp }
         ensures served { IfSome (D.datagrams self.old.job.datagrams) (λ o. (end : EndOfJob) × EndsSo end result × JobEndsBy A.is_reply self.old.job.allowed.rules.now end (A.seen handler.old) o (D.failed self.old.job.datagrams) self.old.job.most (A.seen handler.new) (D.datagrams self.new.job.datagrams) (D.failed self.new.job.datagrams)) }
         ensures grows { Grows (A.seen handler.new) (A.seen handler.old) }
         ensures end { self.new.end ≡ Some result }

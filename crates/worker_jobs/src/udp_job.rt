@@ -1,4 +1,6 @@
 //! A worker's job that answers datagrams (RFC 1035, 4.2.1).
+ghost use Rattle.serve_core.specs.declared.transport.Transport.TheVariants.{Udp};
+ghost use Rattle.requests.specs.Allowed.{RulesEntitle};
 ghost use Rattle.std.specs.Prelude.{◌≡◌, Some, IfSome, IsSome};
 ghost use Rattle.zone_server.specs.declared.service_log.JobEnd.{JobEnd as EndOfJob};
 ghost use Rattle.requests.specs.Served.{Grows};
@@ -84,6 +86,7 @@ impl<'a, D: Datagrams> UdpJob<'a, D> {
     /// Answers the job's number of datagrams as they come, and gives how that ended. It answers fewer where one can't be received, or no
     /// version can be loaded. Each peer may update and transfer by its own address (RFC 1035, 4.2.1).
     pub fn serve<R: Wait, A: Handler>(&mut self, rt: &R, handler: &mut A) -> JobEnd
+        requires entitled { RulesEntitle A.entitles self.old.allowed.rules.now Udp }
         ensures served { IfSome (D.datagrams self.old.datagrams) (λ o. JobEndsBy A.is_reply self.old.allowed.rules.now result (A.seen handler.old) o (D.failed self.old.datagrams) self.old.most (A.seen handler.new) (D.datagrams self.new.datagrams) (D.failed self.new.datagrams)) }
         ensures grows { Grows (A.seen handler.new) (A.seen handler.old) }
         ensures end { self.new.end ≡ Some result }
