@@ -1,9 +1,0 @@
-pub mod Cell
-pub mod Example
-pub mod Loaded
-pub mod Made
-pub mod Published
-pub mod Shows
-pub mod WordExample
-pub mod WordSteps
-pub mod Words

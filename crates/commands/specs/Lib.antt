@@ -1,9 +1,0 @@
-pub mod Answers
-pub mod Apply
-pub mod Fault
-pub mod Input
-pub mod Lines
-pub mod Run
-pub mod Script
-pub mod Report
-pub mod Versions

@@ -1,3 +1,0 @@
-pub mod CounterLemmas
-pub mod SendLemmas
-pub mod SumLemmas

@@ -1,9 +1,0 @@
-pub mod Front
-pub mod Gather
-pub mod Kept
-pub mod Labels
-pub mod Name
-pub mod Order
-pub mod Sought
-pub mod Stored
-pub mod Text

@@ -1,2 +1,0 @@
-pub mod RightsLemmas
-pub mod SendLemmas

@@ -1,3 +1,0 @@
-pub mod Hmac
-pub mod Hashers
-pub mod Macs

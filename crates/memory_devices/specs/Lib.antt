@@ -1,3 +1,0 @@
-pub mod MemoryStream
-pub mod MemoryDatagrams
-pub mod MemoryDisk

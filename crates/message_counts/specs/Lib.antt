@@ -1,4 +1,0 @@
-pub mod Counts
-pub mod Places
-pub mod Replies
-pub mod Transfers

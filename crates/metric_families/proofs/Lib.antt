@@ -1,4 +1,0 @@
-pub mod BucketLemmas
-pub mod EachLemmas
-pub mod EndedLemmas
-pub mod PutLemmas

@@ -1,9 +1,0 @@
-use Rattle.std.proofs.Common.{rules}
-use Rattle.metric_families.proofs.PutLemmas.{first, after}
-use Rattle.metric_families.proofs.process.process_families.Goals as goal
-
-pub returns : goal.returns
-returns c =
-    after c.args.families.now.items _
-    (after c.args.families.now.items _ (first c.args.families.now.items c.in_ok-push-2.ensures.items (search rules)) c.in_ok-push-3.ensures.items c.in_ok-single.ensures)
-    c.in_ok-push-4.ensures.items c.in_ok-single-2.ensures

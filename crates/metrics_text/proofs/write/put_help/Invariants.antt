@@ -1,7 +1,0 @@
-use Rattle.std.proofs.Common.{◌≡◌, ◌++◌, flat_map, drop}
-use Rattle.metrics_text.specs.Exposition.{help_octet}
-use Rattle.metrics_text.proofs.write.put_help.Given as goal
-
--- what is written, with what is left, is all
-abbrev pub invariant-loop-octet : goal.invariant-loop-octet
-invariant-loop-octet l = l.text.items ++ flat_map (help_octet) (drop l.octet-index l.octets) ≡ l.initial.text.items ++ flat_map (help_octet) l.octets

@@ -1,4 +1,0 @@
-pub mod NotifyLemmas
-pub mod TurnLemmas
-pub mod CourseLemmas
-pub mod RunLemmas

@@ -1,6 +1,0 @@
-use Rattle.std.proofs.Common.{◌≡◌, ◌++◌, drop, string_bytes}
-use Rattle.hex.specs.Hex.{encode_lower}
-use Rattle.record_text.proofs.generic.write_digits.Given as goal
-
-abbrev pub invariant-loop-octet : goal.invariant-loop-octet
-invariant-loop-octet l = string_bytes l.text ++ encode_lower (drop l.octet-index l.octets) ≡ string_bytes l.initial.text ++ encode_lower l.octets

@@ -1,8 +1,0 @@
-use Rattle.std.proofs.Common.{◌≡◌, drop, map}
-use Rattle.record_text.specs.Strings.{strings_of}
-use Rattle.zone_lexing.specs.Word.{written}
-use Rattle.record_text.proofs.DataLemmas.{behind}
-use Rattle.record_text.proofs.strings.put_strings.Given as goal
-
-abbrev pub invariant-loop-word : goal.invariant-loop-word
-invariant-loop-word l = behind l.octets.items (strings_of (map written (drop l.word-index l.words))) ≡ behind l.initial.octets.items (strings_of (map written l.words))

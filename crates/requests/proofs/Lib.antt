@@ -1,3 +1,0 @@
-pub mod ExchangeLemmas
-pub mod PeerLemmas
-pub mod TurnLemmas

@@ -1,4 +1,0 @@
-pub mod ServedLemmas
-pub mod WantLemmas
-pub mod TransferLemmas
-pub mod RepliesLemmas

@@ -1,2 +1,0 @@
-pub mod ReaderLemmas
-pub mod SendLemmas

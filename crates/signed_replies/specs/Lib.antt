@@ -1,3 +1,0 @@
-pub mod Rights
-pub mod Signed
-pub mod Stream

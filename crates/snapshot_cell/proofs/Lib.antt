@@ -1,4 +1,0 @@
-pub mod HistoryLemmas
-pub mod SendLemmas
-pub mod TokenLemmas
-pub mod EndLemmas

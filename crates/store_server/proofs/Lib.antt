@@ -1,7 +1,0 @@
-pub mod ChainLemmas
-pub mod LawLemmas
-pub mod RecoveredLemmas
-pub mod ResumedLemmas
-pub mod ServedLemmas
-mod TakeZoneLemmas
-mod TakeZoneStartLemmas

@@ -1,2 +1,0 @@
-pub mod DoneLemmas
-mod VerdictLemmas

@@ -1,7 +1,0 @@
--- So many records are passed.
-use Rattle.std.proofs.Common.{◌≡◌, drop}
-use Rattle.transfer_core.specs.Packed.{listed}
-use Rattle.transfer_core.proofs.resume.behind.Given as goal
-
-abbrev pub invariant-loop-passed : goal.invariant-loop-passed
-invariant-loop-passed g l = listed l.list ≡ drop l._passed (listed l.fn.list)

@@ -1,9 +1,0 @@
-pub mod EqLemmas
-pub mod ListLemmas
-pub mod RecordLemmas
-pub mod ErrorTsigLemmas
-pub mod SizeLemmas
-pub mod NoRecords
-mod ReadBack
-mod PutBack
-mod SignedAlone

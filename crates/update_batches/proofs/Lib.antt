@@ -1,9 +1,0 @@
-pub mod BatchLemmas
-pub mod CrashLemmas
-mod DoneLemmas
-pub mod LastingLemmas
-pub mod ReadLemmas
-mod RequestLemmas
-mod ServedLemmas
-mod TakeLemmas
-mod ToldLemmas

@@ -1,6 +1,0 @@
-pub mod JoinedLemmas
-pub mod PointerLemmas
-pub mod DataLemmas
-pub mod AgainLemmas
-pub mod WrittenLemmas
-pub mod PreparedLemmas

@@ -1,4 +1,0 @@
-pub mod PlaceLemmas
-pub mod HistoryLemmas
-pub mod ChainLemmas
-pub mod SendLemmas

@@ -1,5 +1,0 @@
-pub mod SendLemmas
-pub mod EachLemmas
-pub mod ListLemmas
-pub mod TurnedLemmas
-pub mod WokenLemmas

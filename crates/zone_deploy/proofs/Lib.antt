@@ -1,3 +1,0 @@
-pub mod FrameLemmas
-pub mod SignedLemmas
-pub mod TransferLemmas

@@ -1,4 +1,0 @@
-pub mod GoingLemmas
-pub mod PendingLemmas
-pub mod PendingRepliedLemmas
-pub mod SendLemmas

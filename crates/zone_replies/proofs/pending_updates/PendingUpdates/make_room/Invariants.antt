@@ -1,7 +1,0 @@
--- So many entries are there as the loop has come to, and those behind the first ones are blank.
-use Rattle.std.proofs.Common.{◌≡◌, ◌++◌, ℕ, None, length, replicate}
-use Rattle.zone_replies.proofs.pending_updates.PendingUpdates.make_room.Given as goal
-
-abbrev pub invariant-loop-entry : goal.invariant-loop-entry
-invariant-loop-entry g l =
-    ((more : ℕ) × (l.self-inside.entries.items ≡ l.initial.self-inside.entries.items ++ replicate more None)) × (length l.self-inside.entries.items ≡ l._entry)

@@ -1,4 +1,0 @@
-pub mod RemainingMessages
-pub mod Going
-pub mod PendingUpdates
-pub mod State
